@@ -1,0 +1,12 @@
+use Rattle.std.proofs.Common.{◌≡◌, ◌≤◌, length, IfSome}
+use Rattle.outside.specs.Files.{bytes_of}
+use Rattle.outside.proofs.ReadingLemmas.{IsFront}
+use Rattle.outside.proofs.reading.read_bytes.Given as goal
+
+abbrev pub invariant-loop-turn : goal.invariant-loop-turn
+invariant-loop-turn g l = record {
+  same : g.F.Folder.held l.folder ≡ g.F.Folder.held l.fn.folder;
+  later : g.F.Folder.faults l.fn.folder ≤ g.F.Folder.faults l.folder;
+  within : length l.bytes.items ≤ l.len;
+  front : IfSome (g.F.Folder.held l.fn.folder) (λ files. IsFront (bytes_of files l.name) l.bytes.items l._turn);
+}

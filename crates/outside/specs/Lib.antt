@@ -1,0 +1,6 @@
+pub mod Files
+pub mod Causes
+pub mod Ends
+pub mod Shelves
+pub mod Trials
+pub mod Reading
