@@ -1,0 +1,36 @@
+-- A word is read as a number exactly where it spells one in range, and as a relation exactly where it spells one.
+use Rattle.std.proofs.Common.{◌≡◌, Bool, true, false, cond, nat_le, Option, Some, None, Ok, Err, refl, sym, ap, subst, ◌∙◌}
+use Rattle.std.proofs.lemmas.Bool.{leb-true, le-leb, cond-true}
+use Rattle.std.proofs.Math.IntN.{ℤ, nat_abs}
+use Rattle.mat_files.specs.Words.{Word}
+use Rattle.mat_files.specs.Numbers.{number_value}
+use Rattle.mat_files.specs.Tables.{greatest}
+use Rattle.mat_files.specs.Matrices.{cell_at, in_range, IsSmall}
+use Rattle.std.specs.Prelude.{⊤}
+use Rattle.mat_files.specs.Relations.{relation_value, relation_at, found_relation}
+use Rattle.mat_files.specs.declared.relations.Rel.{Rel}
+use Rattle.mat_files.specs.declared.faults.TextFault.TheVariants.{OutOfRange}
+use Rattle.mat_files.proofs.GrammarLemmas.{ReadsCells}
+
+in_range-back : (w : Word) (o : Option ℤ) (z : ℤ) → in_range w o ≡ Ok z → (o ≡ Some z) × IsSmall z
+in_range-back w None z e = cc
+in_range-back w (Some y) z e = go (nat_le (nat_abs y) greatest) refl e where
+  go : (t : Bool) → t ≡ nat_le (nat_abs y) greatest → cond t (Ok y) (Err (OutOfRange w.at)) ≡ Ok z → (Some y ≡ Some z) × IsSmall z
+  go true t f = let same : y ≡ z = cc f in (ap Some same, subst IsSmall same (leb-true (nat_abs y) greatest (sym t)))
+  go false t f = cc
+
+pub reads_numbers : ReadsCells number_value IsSmall cell_at
+reads_numbers = record {
+  only = λ w z e small. ap (in_range w) e ∙ cond-true _ _ _ (le-leb (nat_abs z) greatest small);
+  found = λ w z e. in_range-back w (number_value w.bytes) z e;
+}
+
+found_relation-back : (w : Word) (o : Option Rel) (r : Rel) → found_relation w o ≡ Ok r → o ≡ Some r
+found_relation-back w None r e = cc
+found_relation-back w (Some s) r e = cc
+
+pub reads_relations : ReadsCells relation_value (λ _. ⊤) relation_at
+reads_relations = record {
+  only = λ w r e allowed. ap (found_relation w) e;
+  found = λ w r e. (found_relation-back w (relation_value w.bytes) r e, tt);
+}

@@ -1,0 +1,7 @@
+pub mod Words
+pub mod Numbers
+pub mod Tables
+pub mod Matrices
+pub mod Relations
+pub mod Texts
+pub mod Grammar
