@@ -1,0 +1,5 @@
+pub mod Numbers
+pub mod Vectors
+pub mod Steps
+pub mod Products
+pub mod Sums
