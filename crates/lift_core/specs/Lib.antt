@@ -1,0 +1,10 @@
+pub mod Minimal
+pub mod Systems
+pub mod Extended
+pub mod Lists
+pub mod Stages
+pub mod Sums
+pub mod Ends
+pub mod Units
+pub mod Written
+pub mod Laws
