@@ -1,0 +1,40 @@
+-- What is true of files without a fault, and of the user's system that they give.
+use Rattle.std.specs.Prelude.{◌≡◌, ℕ, ◌*◌, ◌≤◌, List, ℤ, replicate, length, None}
+use Rattle.std.specs.List.{All, AllByRecursion}
+use Rattle.lift_core.specs.Systems.{InRange, IsSign}
+use Rattle.lift_core.specs.declared.Tool.{Tool}
+use Rattle.system_shape.specs.declared.files.Input.{Input}
+use Rattle.system_shape.specs.Shape.{UserSystem, IsWellFormed, signs_of, relations_of, rights_of, has_home}
+
+-- the signs of n columns
+pub record AreSigns (n : ℕ) (signs : List ℤ) : Type 0 where
+  pub count : length signs ≡ n
+  pub known : All IsSign signs
+
+-- the right sides of m rows
+pub record AreRights (m : ℕ) (rights : List ℤ) : Type 0 where
+  pub count : length rights ≡ m
+  pub small : AllByRecursion InRange rights
+
+-- a matrix within the limits, with signs, relations and right sides that fit it
+pub record AreFitting (tool : Tool) (input : Input) : Type 0 where
+  pub entries : length input.mat.cells ≡ input.mat.rows * input.mat.cols
+  pub some_columns : 1 ≤ input.mat.cols
+  pub most_columns : input.mat.cols ≤ 64
+  pub most_rows : input.mat.rows ≤ 64
+  pub small : AllByRecursion InRange input.mat.cells
+  pub signs : AreSigns input.mat.cols (signs_of tool input.mat.cols input.sign)
+  pub relations : length (relations_of input.mat.rows input.rel) ≡ input.mat.rows
+  pub rights : AreRights input.mat.rows (rights_of input.mat.rows input.rhs)
+
+-- a user's system of 1 to 64 columns and at most 64 rows, with no caps, whose numbers are in range
+pub record IsAccepted (tool : Tool) (U : UserSystem) : Type 0 where
+  pub well : IsWellFormed U
+  pub home : U.home ≡ has_home tool
+  pub caps : U.caps ≡ replicate (length U.signs) None
+  pub some_columns : 1 ≤ length U.signs
+  pub most_columns : length U.signs ≤ 64
+  pub most_rows : length U.rows ≤ 64
+  pub signs : All IsSign U.signs
+  pub coefficients : AllByRecursion (λ r. All InRange r.coefficients) U.rows
+  pub rights : AllByRecursion (λ r. InRange r.right) U.rows

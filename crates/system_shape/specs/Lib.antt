@@ -1,0 +1,5 @@
+pub mod Shape
+pub mod Solutions
+pub mod Laws
+pub mod Accepted
+pub mod Cells

@@ -1,0 +1,76 @@
+//! The signs of the columns.
+
+ghost use Rattle.std.specs.Prelude.{◌≡◌, ◌++◌, ◌≤◌, ◌<◌, ℤ, pos, length, replicate, IfOk, All};
+ghost use Rattle.lift_core.specs.Systems.{IsSign};
+ghost use Rattle.system_shape.specs.Shape.{signs_of, has_home, home_signs};
+
+use lift_core::Tool;
+use mat_files::Grid;
+use std::alloc::{AllocError, Global};
+
+/// Whether the tool has a homogenising column.
+pub(crate) fn has_home(tool: Tool) -> bool
+    ensures { result ≡ has_home tool }
+{
+    matches!(tool, Tool::Zsolve)
+}
+
+// the sign that the entry is
+fn sign_of(entry: i64) -> i8
+    requires { IsSign entry }
+    ensures { result ≡ entry }
+{
+    match entry {
+        1 => 1,
+        -1 => -1,
+        _ => 2,
+    }
+}
+
+// the signs that stand in the file
+fn file_signs(alloc: Global, entries: &[i64]) -> Result<Vec<i8>, AllocError>
+    requires { All IsSign entries.now }
+    ensures { IfOk result (λ v. v.items ≡ entries.now) }
+{
+    let mut signs = Vec::new(alloc);
+    for entry in entries {
+        signs.push(sign_of(*entry))?;
+    }
+    Ok(signs)
+}
+
+// the signs of the user's n columns
+fn user_signs(alloc: Global, tool: Tool, n: u32, sign: &Option<Grid>) -> Result<Vec<i8>, AllocError>
+    requires { All IsSign (signs_of tool n sign.now) }
+    ensures { IfOk result (λ v. v.items ≡ signs_of tool n sign.now) }
+{
+    match sign {
+        Some(file) => file_signs(alloc, &file.cells),
+        None => match tool {
+            Tool::Graver => vec![in alloc; 2; n as usize],
+            Tool::Hilbert => vec![in alloc; 1; n as usize],
+            Tool::Zsolve => Ok(Vec::new(alloc)),
+        },
+    }
+}
+
+/// The signs of the user's n columns, of so many slack columns, and of the homogenising column.
+pub(crate) fn column_signs(
+    alloc: Global,
+    tool: Tool,
+    n: u32,
+    sign: &Option<Grid>,
+    slacks: usize,
+) -> Result<Vec<i8>, AllocError>
+    requires { All IsSign (signs_of tool n sign.now) }
+    ensures { IfOk result (λ v. v.items ≡ signs_of tool n sign.now ++ (replicate slacks (pos 1) ++ home_signs (has_home tool))) }
+{
+    let mut signs = user_signs(alloc, tool, n, sign)?;
+    for _slack in 0..slacks {
+        signs.push(1)?;
+    }
+    if has_home(tool) {
+        signs.push(1)?;
+    }
+    Ok(signs)
+}

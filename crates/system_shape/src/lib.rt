@@ -1,0 +1,19 @@
+//! The system of equations that the user's matrices stand for.
+//!
+//! A user's system has inequalities and right sides. The system that is solved has equations with right side 0, over
+//! the user's columns, a slack column for each inequality, and for `zsolve` a homogenising column.
+#![tactic(auto)]
+
+mod accepting;
+mod columns;
+mod equations;
+mod faults;
+mod files;
+pub mod laws;
+mod shaping;
+#[cfg(test)]
+mod tests;
+
+pub use faults::{ShapeEnd, ShapeFault};
+pub use files::Input;
+pub use shaping::shape;
