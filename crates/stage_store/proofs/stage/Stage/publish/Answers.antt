@@ -1,0 +1,55 @@
+use Rattle.std.proofs.Common.{◌≡◌, ◌∙◌, sym, arith, ap, subst, ◌+◌, length, length-append, ◌++◌, drop}
+use Rattle.std.specs.Prelude.{List, ℤ}
+use Rattle.lift_core.specs.Stages.{IsNextNorm}
+use Rattle.stage_store.specs.Classes.{ClassValue, with_class}
+use Rattle.stage_store.specs.Stage.{StageValue, IsStage, used_of}
+use Rattle.stage_store.specs.Published.{IsGrowth, IsPublished}
+use Rattle.stage_store.proofs.Held.{stage_of}
+use Rattle.stage_store.proofs.Used.{used_most, pairs_to_next, pairs_within-most}
+use Rattle.stage_store.proofs.Onward.{value_of, value_after, published_is, holds_after, defined_after, further_after}
+use Rattle.stage_store.proofs.stage.Stage.publish.Goals as goal
+
+pub overflow_add-self-2 : goal.overflow_add-self-2
+overflow_add-self-2 c =
+    let s : IsStage c.args.self.now = stage_of c.self.view_is c.self.invariant.stage in
+    let g : IsGrowth c.args.self.now c.args.closed.now.norm c.args.limit c.in_ok-growth.growth = c.in_ok-growth.ensures in
+    omega (
+      arith,
+      c.self.invariant.used_is,
+      ap used_of c.self.view_is,
+      used_most c.args.self.now s,
+      g.pairs_are,
+      pairs_to_next c.args.self.now.listed c.args.self.now.waiting c.args.self.now.norm c.args.closed.now.norm c.requires.next,
+      pairs_within-most c.args.self.now.listed c.args.closed.now.norm s.listed_length,
+    )
+
+pub invariant_of-self-2 : goal.invariant_of-self-2
+invariant_of-self-2 c =
+    holds_after c.self.inside.system c.self.inside.number c.self.inside.norm c.self.inside.before c.args.closed.now.norm c.args.limit c.self.inside.waited c.self.inside.used c.self.inside.listed c.append_from.new.self c.self.inside.waiting
+    c.self.inside.plus.items c.self.inside.minus.items c.add_class.new.classes.items c.add_class-2.new.classes.items c.in_ok-growth.growth
+    c.self.invariant (subst (λ (s : StageValue). IsNextNorm s.listed s.waiting s.norm c.args.closed.now.norm) (sym c.self.view_is) c.requires.next) c.requires.small c.requires.limit
+    (subst (λ (s : StageValue). IsGrowth s c.args.closed.now.norm c.args.limit c.in_ok-growth.growth) (sym c.self.view_is) c.in_ok-growth.ensures)
+    (c.append_from.ensures.width ∙ c.reserve.ensures.same.0)
+    (c.append_from.ensures.rows ∙ ap (λ (l : List (List ℤ)). l ++ c.in_ok-growth.growth.rows.rows) c.reserve.ensures.same.1)
+    (c.add_class.ensures ∙ ap (λ (l : List ClassValue). with_class c.in_ok-growth.growth.plus.norm c.in_ok-growth.growth.plus.ids l) c.reserve-2.ensures.items)
+    (c.add_class-2.ensures ∙ ap (λ (l : List ClassValue). with_class c.in_ok-growth.growth.minus.norm c.in_ok-growth.growth.minus.ids l) c.reserve-3.ensures.items)
+
+pub returns-clause-end : goal.returns-clause-end
+returns-clause-end c =
+    let rows : c.append_from.new.self.rows ≡ c.self.inside.listed.rows ++ c.in_ok-growth.growth.rows.rows = c.append_from.ensures.rows ∙ ap (λ (l : List (List ℤ)). l ++ c.in_ok-growth.growth.rows.rows) c.reserve.ensures.same.1 in
+    let g : IsGrowth (value_of c.self.inside.system c.self.inside.number c.self.inside.norm c.self.inside.before c.self.inside.listed.rows (drop c.self.inside.waited c.self.inside.waiting.rows)) c.args.closed.now.norm c.args.limit c.in_ok-growth.growth =
+    subst (λ (s : StageValue). IsGrowth s c.args.closed.now.norm c.args.limit c.in_ok-growth.growth) (sym c.self.view_is) c.in_ok-growth.ensures in (
+      subst (λ (s : StageValue). IsPublished s c.args.closed.now.norm (value_of c.self.inside.system c.self.inside.number c.args.closed.now.norm c.self.inside.before c.append_from.new.self.rows (drop (c.self.inside.waited + c.in_ok-growth.growth.taken) c.self.inside.waiting.rows))) c.self.view_is
+          (published_is (value_of c.self.inside.system c.self.inside.number c.self.inside.norm c.self.inside.before c.self.inside.listed.rows (drop c.self.inside.waited c.self.inside.waiting.rows)) c.args.closed.now.norm c.args.limit c.in_ok-growth.growth
+          c.self.invariant.stage (subst (λ (s : StageValue). IsNextNorm s.listed s.waiting s.norm c.args.closed.now.norm) (sym c.self.view_is) c.requires.next) c.requires.small c.requires.limit g
+          (value_of c.self.inside.system c.self.inside.number c.args.closed.now.norm c.self.inside.before c.append_from.new.self.rows (drop (c.self.inside.waited + c.in_ok-growth.growth.taken) c.self.inside.waiting.rows))
+          (value_after c.self.inside.system c.self.inside.number c.self.inside.norm c.self.inside.before c.args.closed.now.norm c.self.inside.waited c.in_ok-growth.growth.taken c.self.inside.listed.rows c.in_ok-growth.growth.rows.rows c.append_from.new.self.rows c.self.inside.waiting.rows rows)),
+      omega (arith, ap length rows, length-append c.self.inside.listed.rows c.in_ok-growth.growth.rows.rows, g.within),
+    )
+
+pub returns-clause-defined : goal.returns-clause-defined
+returns-clause-defined c = λ h.
+    defined_after c.args.self.now _ c.args.closed.now.norm c.requires.next (returns-clause-end c).0 h
+
+pub returns-clause-further : goal.returns-clause-further
+returns-clause-further c = further_after c.args.self.now _ c.args.closed.now.norm c.requires.next (returns-clause-end c).0

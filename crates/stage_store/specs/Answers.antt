@@ -1,0 +1,16 @@
+-- What next_norm answers.
+use Rattle.std.specs.Prelude.{ℕ, ◌≤◌, ◌<◌, List, ℤ, Option, Some, None}
+use Rattle.lift_core.specs.Stages.{IsNextNorm, HasNoNextNorm, IsWaitingAt}
+use Rattle.lift_core.specs.Ends.{largest}
+use Rattle.stage_store.specs.Stage.{StageValue}
+use Rattle.stage_store.specs.declared.stage.Next.{Next}
+use Rattle.stage_store.specs.declared.stage.Next.TheVariants.{Norm, Overflow}
+
+abbrev pub IsNext : StageValue → Option Next → Type 0
+IsNext s None = HasNoNextNorm s.listed s.waiting s.norm
+IsNext s (Some (Norm e)) = IsNextNorm s.listed s.waiting s.norm e × (e ≤ largest)
+IsNext s (Some (Overflow e)) = IsNextNorm s.listed s.waiting s.norm e × (largest < e)
+
+-- the norms of the waiting rows
+abbrev pub HasWaitingNorm : List (List ℤ) → ℕ → Type 0
+HasWaitingNorm waiting n = (z : List ℤ) × IsWaitingAt waiting n z

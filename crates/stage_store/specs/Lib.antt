@@ -1,0 +1,15 @@
+pub use Rattle.lift_core.specs.Units
+pub use Rattle.lift_core.specs.Systems
+pub use Rattle.lift_core.specs.Stages
+pub use Rattle.lift_core.specs.Ends
+pub use Rattle.row_pool.specs.Rows
+pub mod Classes
+pub mod Least
+pub mod Stage
+pub mod Answers
+pub mod Laws
+pub mod Merge
+pub mod UnitVectors
+pub mod Lifted
+pub mod Published
+pub mod Found

@@ -1,0 +1,167 @@
+//! What a closed norm adds to a stage: the merge of the waiting rows and the sums, and the classes of the new rows.
+
+ghost use Rattle.std.specs.Prelude.{◌≡◌, ◌↔◌, IsTrue, ◌+◌, ◌-◌, ◌<◌, ◌≤◌, ◌^◌, ◌++◌, ℕ, List, [], length, take, drop, slice_index_or, IfOk, vec_len, vec_capacity};
+ghost use Rattle.std.specs.List.{AllByRecursion};
+ghost use Rattle.std.specs.List.Sorted.{IsStrictlySortedBy};
+ghost use Rattle.lift_core.specs.Stages.{lex_cmp, stage_norm};
+ghost use Rattle.stage_store.specs.Merge.{merged};
+ghost use Rattle.stage_store.specs.Classes.{places, sign_test, with_class};
+
+use crate::class::Class;
+use int_vector::{lex, norm};
+use row_pool::{Pool, RowId};
+use std::alloc::{AllocError, Global};
+use std::cmp::Ordering;
+
+/// The place after the waiting rows of a norm, which begin at `from`.
+pub fn waits_up_to(waiting: &Pool, from: u32, least: u64) -> u32
+    requires from { from ≤ length waiting.now.rows }
+    requires width { 0 < waiting.now.width }
+    requires small { least ≤ 9223372036854775807 }
+    ensures from { from ≤ result }
+    ensures to { result ≤ length waiting.now.rows }
+    ensures before { (k : ℕ) → from ≤ k → k < result → stage_norm (slice_index_or waiting.now.rows k []) ≡ least }
+    ensures at { result < length waiting.now.rows → stage_norm (slice_index_or waiting.now.rows result []) ≡ least → ⊥ }
+{
+    let width = waiting.width() as usize - 1;
+    for i in from..waiting.len() {
+        if !has_norm(waiting.row(RowId(i)), width, least) {
+            return i;
+        }
+    }
+    waiting.len()
+}
+
+/// Whether a row has a norm.
+#[tactic(auto, using(crate::proofs::Signs::front_laws))]
+fn has_norm(row: &[i64], width: usize, least: u64) -> bool
+    requires width { length row.now ≡ width + 1 }
+    requires small { least ≤ 9223372036854775807 }
+    ensures { IsTrue result ↔ (stage_norm row.now ≡ least) }
+{
+    match norm(&row[..width]) {
+        Some(n) => n == least,
+        None => false,
+    }
+}
+
+/// The rows of `waits` from one place up to another and the rows of `sums` in order, each once.
+pub fn merged_rows(
+    alloc: Global,
+    room: u32,
+    waits: &Pool,
+    from: u32,
+    to: u32,
+    sums: &Pool,
+) -> Result<Pool, AllocError>
+    requires room { (to - from) + length sums.now.rows ≤ room }
+    requires from { from ≤ to }
+    requires to { to ≤ length waits.now.rows }
+    requires width { waits.now.width ≡ sums.now.width }
+    requires most { waits.now.width ≤ 130 }
+    requires waits { IsStrictlySortedBy lex_cmp (drop from (take to waits.now.rows)) }
+    requires sums { IsStrictlySortedBy lex_cmp sums.now.rows }
+    ensures width { IfOk result (λ rows. rows.width ≡ waits.now.width) }
+    ensures rows { IfOk result (λ rows. rows.rows ≡ merged lex_cmp (drop from (take to waits.now.rows)) sums.now.rows) }
+{
+    let mut rows = Pool::new(alloc, waits.width());
+    rows.reserve(room)?;
+    merge_into(&mut rows, waits, from, to, sums);
+    Ok(rows)
+}
+
+/// Appends the rows of `waits` from one place up to another and the rows of `sums` in order, each once.
+fn merge_into(listed: &mut Pool, waits: &Pool, from: u32, to: u32, sums: &Pool)
+    requires room { (to - from) + length sums.now.rows ≤ listed.old.spare }
+    requires from { from ≤ to }
+    requires to { to ≤ length waits.now.rows }
+    requires first { listed.old.width ≡ waits.now.width }
+    requires second { listed.old.width ≡ sums.now.width }
+    requires waits { IsStrictlySortedBy lex_cmp (drop from (take to waits.now.rows)) }
+    requires sums { IsStrictlySortedBy lex_cmp sums.now.rows }
+    ensures width { listed.new.width ≡ listed.old.width }
+    ensures rows { listed.new.rows ≡ listed.old.rows ++ merged lex_cmp (drop from (take to waits.now.rows)) sums.now.rows }
+{
+    let mut i = from;
+    let mut j = 0;
+    while i < to && j < sums.len() {
+        match lex(waits.row(RowId(i)), sums.row(RowId(j))) {
+            Ordering::Less => {
+                listed.push(waits.row(RowId(i)));
+                i += 1;
+            }
+            Ordering::Equal => {
+                listed.push(waits.row(RowId(i)));
+                i += 1;
+                j += 1;
+            }
+            Ordering::Greater => {
+                listed.push(sums.row(RowId(j)));
+                j += 1;
+            }
+        }
+    }
+    append_part(listed, waits, i, to);
+    append_part(listed, sums, j, sums.len());
+}
+
+/// Appends the rows from one place up to another.
+fn append_part(listed: &mut Pool, rows: &Pool, from: u32, to: u32)
+    requires room { to ≤ from + listed.old.spare }
+    requires from { from ≤ to }
+    requires to { to ≤ length rows.now.rows }
+    requires width { listed.old.width ≡ rows.now.width }
+    ensures width { listed.new.width ≡ listed.old.width }
+    ensures rows { listed.new.rows ≡ listed.old.rows ++ drop from (take to rows.now.rows) }
+    ensures spare { listed.new.spare + to ≡ listed.old.spare + from }
+{
+    for i in from..to {
+        listed.push(rows.row(RowId(i)));
+    }
+}
+
+/// Whether the last entry is above 0, or below it.
+#[tactic(auto, using(crate::proofs::Signs::sign_laws))]
+fn has_sign(row: &[i64], width: usize, positive: bool) -> bool
+    requires { length row.now ≡ width + 1 }
+    ensures { result ≡ sign_test positive row.now }
+{
+    if positive {
+        row[width] > 0
+    } else {
+        row[width] < 0
+    }
+}
+
+/// The class of the rows with a sign, which will be listed from place `base` on.
+pub fn class_of(
+    alloc: Global,
+    rows: &Pool,
+    base: u32,
+    norm: u64,
+    positive: bool,
+) -> Result<Class, AllocError>
+    requires base { base + length rows.now.rows < 2 ^ 32 }
+    requires width { 0 < rows.now.width }
+    ensures norm { IfOk result (λ c. c.norm ≡ norm) }
+    ensures ids { IfOk result (λ c. c.ids ≡ places (sign_test positive) base rows.now.rows) }
+{
+    let mut ids = Vec::new(alloc);
+    let width = rows.width() as usize - 1;
+    for i in 0..rows.len() {
+        if has_sign(rows.row(RowId(i)), width, positive) {
+            ids.push(base + i)?;
+        }
+    }
+    Ok(Class::new(norm, ids))
+}
+
+/// Adds a class, unless it is empty.
+pub fn add_class(classes: &mut Vec<Class>, class: Class)
+    requires { vec_len classes.old < vec_capacity classes.old }
+    ensures { classes.new.items ≡ with_class class.norm class.ids classes.old.items }
+{
+    if !class.ids().is_empty() {
+        classes.push_reserved(class);
+    }
+}

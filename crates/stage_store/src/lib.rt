@@ -1,0 +1,11 @@
+//! One stage of the lifting: its rows in order of norm, the classes that its pairs are found by, and the rows that wait.
+#![tactic(auto)]
+
+mod class;
+mod gathering;
+mod growing;
+pub mod laws;
+mod lifting;
+mod stage;
+
+pub use stage::{Closed, Finish, LiftEnd, Lifted, Next, PublishEnd, Stage};

@@ -1,0 +1,483 @@
+//! The stage, what it is seen as, and the calls that take it from norm to norm and to the next stage.
+
+ghost use Rattle.std.specs.Prelude.{◌≡◌, ◌↔◌, ◌+◌, ◌-◌, ◌*◌, ◌<◌, ◌≤◌, ◌^◌, ℕ, ℤ, List, [], length, slice_index_or, All, MatchOption, IsTrue, ◌+ℤ◌, nat_abs, IfOk, OnOk};
+ghost use Rattle.std.specs.List.{AllZip, AllByRecursion};
+ghost use Rattle.std.specs.List.Sorted.{IsStrictlySortedBy};
+ghost use Rattle.int_vector.specs.Vectors.{◌⊑◌, add, norm};
+ghost use Rattle.lift_core.specs.Lists.{IsListOf};
+ghost use Rattle.lift_core.specs.Stages.{IsIrreducible, HasSum, IsPair, IsNextNorm, HasNoNextNorm, stage_norm, last};
+ghost use Rattle.lift_core.specs.Systems.{width, Solves};
+ghost use Rattle.lift_core.specs.Ends.{used_up_to, solution_cmp};
+ghost use Rattle.row_pool.specs.Rows.{InRange};
+ghost use Rattle.stage_store.specs.Stage.{StageValue, IsStage, IsDefined, used_of};
+ghost use Rattle.stage_store.specs.Classes.{pairs_of, IsPairAt};
+ghost use Rattle.stage_store.specs.Least.{IsLeastAbove};
+ghost use Rattle.stage_store.specs.Answers.{IsNext, HasWaitingNorm};
+ghost use Rattle.stage_store.specs.Lifted.{StartsOr, IsFirst, IsLift, IsLiftedDefined};
+ghost use Rattle.stage_store.specs.Published.{IsClosedNorm, IsPublish, IsFurther, GrowsOr};
+
+use crate::class::{Class, count_pairs, find_pair, lesser, pair_norm_above};
+use crate::gathering::{Found, take_norm};
+use crate::growing::{add_class, class_of, merged_rows, waits_up_to};
+use crate::lifting::{extended, kept_solutions, units};
+use int_vector::{Visits, add_into, below, conformal, norm};
+use lift_core::{IntRow, System};
+use row_pool::{Pool, RowId};
+use std::alloc::{AllocError, Global};
+use std::marker::Model;
+
+/// A norm that is closed: its irreducible sums, each once, in lexicographic order.
+#[derive(Drop)]
+pub struct Closed {
+    pub norm: u64,
+    pub rows: Pool,
+}
+
+/// What the last stage gives: the minimal solutions of all rows by norm and then lexicographically, and the number of
+/// pairs that were used.
+#[derive(Drop)]
+pub struct Finish {
+    pub system: System,
+    pub rows: Pool,
+    pub pairs: u64,
+}
+
+/// What follows on a finished stage.
+#[derive(Drop)]
+pub enum Lifted {
+    /// The next stage.
+    Next(Stage),
+    /// Nothing: all rows are done.
+    Last(Finish),
+}
+
+/// Why a stage was not lifted.
+#[derive(Drop)]
+pub enum LiftEnd {
+    /// The product of the next stage's row with this solution leaves the range.
+    Overflow { stage: u32, row: IntRow },
+    Memory,
+}
+
+impl From<AllocError> for LiftEnd {
+    ghost use Rattle.stage_store.specs.declared.stage.LiftEnd.TheVariants.{Memory};
+
+    ghost from_gives = { λ _ e. e ≡ Memory };
+
+    fn from(_: AllocError) -> LiftEnd {
+        LiftEnd::Memory
+    }
+}
+
+/// The next norm.
+#[derive(Clone, Copy, Debug, PartialEq, Eq, Drop)]
+pub enum Next {
+    Norm(u64),
+    /// It is above 2^63-1.
+    Overflow(u64),
+}
+
+/// Why a norm was not closed.
+#[derive(Clone, Copy, Debug, PartialEq, Eq, Drop)]
+pub enum PublishEnd {
+    /// So many rows would be listed, more than the limit.
+    Rows { count: u64 },
+    Memory,
+}
+
+impl From<AllocError> for PublishEnd {
+    ghost use Rattle.stage_store.specs.declared.stage.PublishEnd.TheVariants.{Memory};
+
+    ghost from_gives = { λ _ e. e ≡ Memory };
+
+    fn from(_: AllocError) -> PublishEnd {
+        PublishEnd::Memory
+    }
+}
+
+/// What a norm adds to a stage: its rows, in order, their classes by the sign of the last entry, the number of waiting
+/// rows among them, and the number of the norm's pairs.
+#[derive(Drop)]
+struct Growth {
+    rows: Pool,
+    plus: Class,
+    minus: Class,
+    taken: u32,
+    pairs: u64,
+}
+
+/// A stage of the lifting at a norm.
+#[derive(Drop)]
+pub struct Stage {
+    alloc: Global,
+    system: System,
+    number: u32,
+    norm: u64,
+    before: u64,
+    used: u64,
+    listed: Pool,
+    waiting: Pool,
+    waited: u32,
+    plus: Vec<Class>,
+    minus: Vec<Class>,
+}
+
+impl Model for Stage {
+    ghost use Rattle.std.specs.Prelude.{drop};
+    ghost use Rattle.stage_store.specs.Stage.{StageValue, Holds};
+
+    ghost Value = { StageValue };
+
+    ghost view = { λ s. record { system = s.system; number = s.number; norm = s.norm; before = s.before; listed = s.listed.rows; waiting = drop s.waited s.waiting.rows } };
+
+    ghost invariant = { λ s. Holds (record { system = s.system; number = s.number; norm = s.norm; before = s.before; listed = s.listed.rows; waiting = drop s.waited s.waiting.rows }) s.listed s.waiting s.waited s.used s.plus.items s.minus.items };
+}
+
+impl Stage {
+    /// The first stage of a system, or the finish of a system without rows.
+    pub fn first(alloc: Global, system: System) -> Result<Lifted, AllocError>
+        ensures first { IfOk result (IsFirst system) }
+        ensures defined { IfOk result IsLiftedDefined }
+    {
+        system.keeps();
+        let solutions = units(alloc, &system)?;
+        match Stage::start(alloc, system, 1, 0, solutions) {
+            Ok(lifted) => Ok(lifted),
+            Err(LiftEnd::Overflow { .. }) => unreachable!(),
+            Err(LiftEnd::Memory) => Err(AllocError),
+        }
+    }
+
+    /// What begins with the minimal solutions of the rows before row `number`.
+    fn start(
+        alloc: Global,
+        system: System,
+        number: u32,
+        used: u64,
+        solutions: Pool,
+    ) -> Result<Lifted, LiftEnd>
+        requires from { 0 < number }
+        requires to { number ≤ length system.equations.rows + 1 }
+        requires used { used ≤ 2 ^ 62 + number * 2 ^ 42 }
+        requires width { solutions.width ≡ width system.equations }
+        requires solutions { AllByRecursion (Solves system.equations (number - 1)) solutions.rows }
+        requires positive { AllByRecursion (λ v. 0 < norm v) solutions.rows }
+        requires small { AllByRecursion (λ v. norm v ≤ 9223372036854775807) solutions.rows }
+        requires ascending { IsStrictlySortedBy solution_cmp solutions.rows }
+        requires count { length solutions.rows ≤ 2 ^ 21 }
+        ensures { StartsOr system number used solutions.rows result }
+    {
+        if number > system.count() {
+            return Ok(Lifted::Last(Finish {
+                system,
+                rows: solutions,
+                pairs: used,
+            }));
+        }
+        system.keeps();
+        let waiting = extended(alloc, &system, number, &solutions)?;
+        let listed = Pool::new(alloc, system.width() + 1);
+        Ok(Lifted::Next(Stage {
+            alloc,
+            system,
+            number,
+            norm: 0,
+            before: used,
+            used,
+            listed,
+            waiting,
+            waited: 0,
+            plus: Vec::new(alloc),
+            minus: Vec::new(alloc),
+        }))
+    }
+
+    /// What begins with the solutions of this stage, which is finished: its rows with last entry 0, without it.
+    pub fn lift(self) -> Result<Lifted, LiftEnd>
+        requires done { HasNoNextNorm self.listed self.waiting self.norm }
+        ensures lifted { IsLift self result }
+        ensures defined { IsDefined self → IfOk result IsLiftedDefined }
+    {
+        let solutions = kept_solutions(self.alloc, &self.listed)?;
+        Stage::start(
+            self.alloc,
+            self.system,
+            self.number + 1,
+            self.used,
+            solutions,
+        )
+    }
+
+    /// What each stage keeps.
+    pub fn keeps(&self)
+        ensures { IsStage self.now }
+    {
+        let _ = &self.system;
+    }
+
+    /// The system.
+    pub fn system(&self) -> &System
+        ensures { result.now ≡ self.now.system }
+    {
+        &self.system
+    }
+
+    /// The number of the stage, from 1.
+    pub fn number(&self) -> u32
+        ensures { result ≡ self.now.number }
+    {
+        self.number
+    }
+
+    /// The last closed norm, and 0 before the first.
+    pub fn norm(&self) -> u64
+        ensures norm { result ≡ self.now.norm }
+        ensures most { result ≤ 9223372036854775807 }
+    {
+        self.norm
+    }
+
+    /// The number of used pairs: those of the stages before, and those of this stage up to its norm.
+    pub fn used(&self) -> u64
+        ensures { result ≡ used_of self.now }
+    {
+        self.used
+    }
+
+    /// The number of pairs that will be used once the next norm is closed.
+    pub fn used_at(&self, norm: u64) -> u64
+        requires { IsNextNorm self.now.listed self.now.waiting self.now.norm norm }
+        ensures { result ≡ used_up_to (used_of self.now) self.now.listed self.now.norm norm }
+    {
+        self.used + self.pairs_at(norm)
+    }
+
+    /// The number of listed rows.
+    pub fn len(&self) -> u32
+        ensures { result ≡ length self.now.listed }
+    {
+        self.listed.len()
+    }
+
+    /// A listed row, with its last entry.
+    pub fn row(&self, id: RowId) -> &[i64]
+        requires { id.0 < length self.now.listed }
+        ensures row { result.now ≡ slice_index_or self.now.listed id.0 [] }
+        ensures width { length result.now ≡ width self.now.system.equations + 1 }
+        ensures range { All InRange result.now }
+    {
+        self.listed.row(id)
+    }
+
+    /// The number of rows that wait.
+    pub fn waiting_len(&self) -> u32
+        ensures { result ≡ length self.now.waiting }
+    {
+        self.waiting.len() - self.waited
+    }
+
+    /// A row that waits, with its last entry.
+    pub fn waiting_row(&self, i: u32) -> &[i64]
+        requires { i < length self.now.waiting }
+        ensures row { result.now ≡ slice_index_or self.now.waiting i [] }
+        ensures width { length result.now ≡ width self.now.system.equations + 1 }
+        ensures range { All InRange result.now }
+    {
+        self.waiting.row(RowId(self.waited + i))
+    }
+
+    /// The number of pairs of a norm.
+    pub fn pairs_at(&self, norm: u64) -> u64
+        ensures number { result ≡ length (pairs_of self.now.listed norm) }
+        ensures most { result ≤ 2 ^ 42 }
+    {
+        count_pairs(&self.plus, &self.minus, norm)
+    }
+
+    /// The p-th pair of a norm.
+    pub fn pair(&self, norm: u64, p: u64) -> (RowId, RowId)
+        requires { p < length (pairs_of self.now.listed norm) }
+        ensures place { IsPairAt self.now.listed norm p result.0.0 result.1.0 }
+        ensures pair { IsPair self.now.listed (slice_index_or self.now.listed result.0.0 []) (slice_index_or self.now.listed result.1.0 []) }
+        ensures norm { stage_norm (slice_index_or self.now.listed result.0.0 []) + stage_norm (slice_index_or self.now.listed result.1.0 []) ≡ norm }
+    {
+        let (f, g) = find_pair(&self.plus, &self.minus, norm, p);
+        (RowId(f), RowId(g))
+    }
+
+    /// The norm of the first row that waits.
+    fn first_waiting(&self) -> Option<u64>
+        ensures { IsLeastAbove (HasWaitingNorm self.now.waiting) self.now.norm result }
+    {
+        if self.waiting.len() == self.waited {
+            return None;
+        }
+        let row = self.waiting.row(RowId(self.waited));
+        norm(&row[..row.len() - 1])
+    }
+
+    /// The least norm above the stage's of a row that waits or of a pair.
+    pub fn next_norm(&self) -> Option<Next>
+        ensures { IsNext self.now result }
+    {
+        let pairs = pair_norm_above(&self.plus, &self.minus, self.norm);
+        let waits = self.first_waiting();
+        match lesser(pairs, waits) {
+            None => None,
+            Some(e) if e > 9223372036854775807 => Some(Next::Overflow(e)),
+            Some(e) => Some(Next::Norm(e)),
+        }
+    }
+
+    /// A listed row that is below z, and one visit more for each row that was compared.
+    pub fn find_below(&self, z: &[i64], visits: &mut Visits) -> Option<RowId>
+        requires { length z.now ≡ width self.now.system.equations + 1 }
+        ensures { MatchOption result (IsIrreducible self.now.listed z.now) (λ i. (i.0 < length self.now.listed) × (slice_index_or self.now.listed i.0 [] ⊑ z.now)) }
+    {
+        for i in 0..self.len() {
+            visits.add();
+            if below(self.row(RowId(i)), z) {
+                return Some(RowId(i));
+            }
+        }
+        None
+    }
+
+    /// The sum of a pair, where it has one.
+    pub fn sum_into(&self, f: RowId, g: RowId, out: &mut [i64]) -> bool
+        requires first { f.0 < length self.now.listed }
+        requires second { g.0 < length self.now.listed }
+        requires pair { IsPair self.now.listed (slice_index_or self.now.listed f.0 []) (slice_index_or self.now.listed g.0 []) }
+        requires norm { stage_norm (slice_index_or self.now.listed f.0 []) + stage_norm (slice_index_or self.now.listed g.0 []) ≤ 9223372036854775807 }
+        requires out { length out.old ≡ width self.now.system.equations + 1 }
+        ensures length { length out.new ≡ length out.old }
+        ensures sum { IsTrue result ↔ HasSum self.now.system.equations (slice_index_or self.now.listed f.0 []) (slice_index_or self.now.listed g.0 []) }
+        ensures is { IsTrue result → out.new ≡ add (slice_index_or self.now.listed f.0 []) (slice_index_or self.now.listed g.0 []) }
+        ensures range { IsTrue result → All InRange out.new }
+    {
+        let width = self.system.width() as usize;
+        let first = self.listed.row(f);
+        let second = self.listed.row(g);
+        if !conformal(&first[..width], &second[..width]) {
+            return false;
+        }
+        add_into(first, second, out);
+        self.system.obeys_caps(&out[..width])
+    }
+
+    /// The irreducible sums of the next norm.
+    pub fn sums(&self, alloc: Global, norm: u64) -> Result<Closed, AllocError>
+        requires next { IsNextNorm self.now.listed self.now.waiting self.now.norm norm }
+        requires small { norm ≤ 9223372036854775807 }
+        ensures { IfOk result (IsClosedNorm self.now norm) }
+    {
+        let width = self.system.width() + 1;
+        let mut sum: Vec<i64> = vec![in alloc; 0; width as usize]?;
+        let mut found = Found::new(alloc, width);
+        take_norm(self, &self.plus, &self.minus, norm, &mut sum, &mut found)?;
+        Ok(Closed {
+            norm,
+            rows: found.in_order(alloc)?,
+        })
+    }
+
+    /// What the next norm adds.
+    fn growth(&self, closed: &Closed, limit: u32) -> Result<Growth, PublishEnd>
+        requires next { IsNextNorm self.now.listed self.now.waiting self.now.norm closed.now.norm }
+        requires small { closed.now.norm ≤ 9223372036854775807 }
+        requires sums { IsClosedNorm self.now closed.now.norm closed.now }
+        ensures { GrowsOr self.now closed.now.norm limit result }
+    {
+        let taken = waits_up_to(&self.waiting, self.waited, closed.norm) - self.waited;
+        let Some(room) = taken.checked_add(closed.rows.len()) else {
+            return Err(PublishEnd::Memory);
+        };
+        let rows = merged_rows(
+            self.alloc,
+            room,
+            &self.waiting,
+            self.waited,
+            self.waited + taken,
+            &closed.rows,
+        )?;
+        let count = u64::from(self.listed.len()) + u64::from(rows.len());
+        if count > u64::from(limit) {
+            return Err(PublishEnd::Rows { count });
+        }
+        Ok(Growth {
+            plus: class_of(self.alloc, &rows, self.listed.len(), closed.norm, true)?,
+            minus: class_of(self.alloc, &rows, self.listed.len(), closed.norm, false)?,
+            pairs: self.pairs_at(closed.norm),
+            rows,
+            taken,
+        })
+    }
+
+    /// Lists the rows of the next norm, the waiting ones and the sums, each once.
+    pub fn publish(&mut self, closed: &Closed, limit: u32) -> Result<(), PublishEnd>
+        requires next { IsNextNorm self.old.listed self.old.waiting self.old.norm closed.now.norm }
+        requires small { closed.now.norm ≤ 9223372036854775807 }
+        requires sums { IsClosedNorm self.old closed.now.norm closed.now }
+        requires limit { limit ≤ 2 ^ 21 }
+        ensures end { IsPublish self.old closed.now.norm limit self.new result }
+        ensures defined { IsDefined self.old → OnOk result (IsDefined self.new) }
+        ensures further { OnOk result (IsFurther self.old self.new) }
+    {
+        let growth = self.growth(closed, limit)?;
+        self.listed.reserve(growth.rows.len())?;
+        self.plus.reserve(1)?;
+        self.minus.reserve(1)?;
+        self.listed.append_from(&growth.rows);
+        add_class(&mut self.plus, growth.plus);
+        add_class(&mut self.minus, growth.minus);
+        self.waited += growth.taken;
+        self.used += growth.pairs;
+        self.norm = closed.norm;
+        Ok(())
+    }
+}
+
+#[cfg(test)]
+mod tests {
+    use super::*;
+    use lift_core::Tool;
+    use std::test::Fail;
+
+    // The equation x1 - 2 x2 = 0 over columns of sign 1: the rows (x1, x2, t) that each norm lists, and the used pairs.
+    #[test]
+    fn one_equation_norm_by_norm(rt: HostRuntime) -> Result<(), Fail> {
+        let alloc = rt.alloc();
+        let system = System::build(
+            Tool::Hilbert,
+            2,
+            2,
+            Vec::from_slice(alloc, &[1, -2])?,
+            Vec::from_slice(alloc, &[1, 1])?,
+        );
+        let Lifted::Next(mut stage) = Stage::first(alloc, system)? else {
+            panic!(&rt; "there is a row");
+        };
+        for (norm, len, used) in [(1, 2, 0), (2, 3, 1), (3, 4, 2)] {
+            let Some(Next::Norm(next)) = stage.next_norm() else {
+                panic!(&rt; "a norm is next");
+            };
+            assert_eq!(rt; next, norm);
+            let closed = stage.sums(alloc, next)?;
+            assert!(rt; stage.publish(&closed, 4).is_ok());
+            assert_eq!(rt; (stage.len(), stage.used()), (len, used));
+        }
+        let wanted = [[0, 1, -2], [1, 0, 1], [1, 1, -1], [2, 1, 0]];
+        assert_eq!(rt; stage.len(), 4);
+        for i in 0..4 {
+            assert_eq!(rt; stage.row(RowId(i)), wanted[i as usize].as_slice());
+        }
+        let None = stage.next_norm() else {
+            panic!(&rt; "no norm is next");
+        };
+        let Ok(Lifted::Last(finish)) = stage.lift() else {
+            panic!(&rt; "there is no other row");
+        };
+        assert_eq!(rt; (finish.rows.len(), finish.pairs), (1, 2));
+        Ok(())
+    }
+}
