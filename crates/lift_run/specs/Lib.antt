@@ -1,0 +1,9 @@
+pub use Rattle.lift_core.specs.Systems
+pub use Rattle.lift_core.specs.Stages
+pub use Rattle.lift_core.specs.Ends
+pub use Rattle.stage_store.specs.Stage
+pub use Rattle.stage_store.specs.Lifted
+pub mod Lifts
+pub mod Runs
+pub mod Steps
+pub mod Counts
