@@ -1,0 +1,12 @@
+use Rattle.std.proofs.Common.{◌≡◌, ◌≤◌, ◌-◌, ◌*◌, ℕ, List, Option, length}
+use Rattle.outside.specs.Files.{Files}
+use Rattle.mat_files.specs.Texts.{lines_of}
+use Rattle.solution_files.specs.Steps.{IsPartWritten}
+use Rattle.solution_files.proofs.output.append_rows.Given as goal
+
+abbrev pub invariant-loop-row : goal.invariant-loop-row
+invariant-loop-row g l = record {
+  held : (text : List ℕ) (before : Option Files) → IsPartWritten l.name text (lines_of l.grid.rows l.grid.cols l.grid.cells) before (g.F.Folder.held l.fn.folder) → IsPartWritten l.name text (lines_of (l.grid.rows - l._row) l.grid.cols l.rest) before (g.F.Folder.held l.folder);
+  cells : length l.rest ≡ (l.grid.rows - l._row) * l.grid.cols;
+  later : g.F.Folder.faults l.fn.folder ≤ g.F.Folder.faults l.folder;
+}

@@ -1,0 +1,13 @@
+use Rattle.std.proofs.Common.{rules, ap, sym, subst, ◌∙◌}
+use Rattle.lift_core.specs.Stages.{lex_cmp}
+use Rattle.lift_core.specs.Written.{negated}
+use Rattle.solution_files.specs.Steps.{rows_behind, is_among}
+use Rattle.solution_files.proofs.OrderLemmas.{found_is_among, answers_alike}
+use Rattle.solution_files.proofs.selection.has_negative.Goals as goal
+
+pub returns : goal.returns
+returns c =
+    found_is_among c.args.rows.now c.in_ok-negative.negative.items c.binary_search_by.result c.is_ok.result c.is_ok.ensures.value c.requires.ascending c.binary_search_by.ensures.bound
+    (c.binary_search_by.ensures.position (λ y. lex_cmp y.now c.in_ok-negative.negative.items) (answers_alike _ _ _ (λ a r f' k. search rules)))
+    c.args.row
+    ∙ ap (is_among (rows_behind c.args.rows.now)) c.in_ok-negative.ensures

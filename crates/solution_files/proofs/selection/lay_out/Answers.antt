@@ -1,0 +1,12 @@
+use Rattle.std.proofs.Common.{◌≡◌, ◌≤◌, ◌++◌, List, [], length, drop, sym, ap, subst, ◌∙◌, append-nil, ℤ, arith, refl}
+use Rattle.std.specs.List.{flat_map}
+use Rattle.std.proofs.lemmas.List.{length-map, at_drop_all}
+use Rattle.solution_files.specs.Steps.{rows_behind}
+use Rattle.solution_files.proofs.RowLemmas.{rows_matrix, all_laid}
+use Rattle.solution_files.proofs.selection.lay_out.Goals as goal
+
+pub invariant_of-result : goal.invariant_of-result
+invariant_of-result c =
+    rows_matrix c.args.columns (rows_behind c.args.rows.now) (length c.args.rows.now) c.loop-row.cells.items c.requires.some c.requires.shape
+    (sym (length-map c.args.rows.now (λ r. r.now)))
+    (all_laid c.args.rows.now c.loop-row.row-index c.loop-row.cells.items c.loop-row-test.false c.loop-row.invariant)

@@ -1,0 +1,6 @@
+use Rattle.std.proofs.Common.{◌≡◌, ◌++◌, drop}
+use Rattle.lift_core.specs.Written.{negated}
+use Rattle.solution_files.proofs.selection.negative_of.Given as goal
+
+abbrev pub invariant-loop-entry : goal.invariant-loop-entry
+invariant-loop-entry l = l.negative.items ++ negated (drop l.entry-index l.row) ≡ negated l.row

@@ -1,0 +1,11 @@
+use Rattle.std.proofs.Common.{◌≡◌, ◌≤◌, ◌++◌, drop, length}
+use Rattle.std.specs.List.{filter}
+use Rattle.solution_files.specs.Steps.{rows_behind, without_negatives}
+use Rattle.solution_files.proofs.RowLemmas.{stays}
+use Rattle.solution_files.proofs.selection.without_negatives.Given as goal
+
+abbrev pub invariant-loop-row : goal.invariant-loop-row
+invariant-loop-row l = record {
+  so_far : rows_behind l.kept.items ++ filter (stays (rows_behind l.rows)) (rows_behind (drop l.row-index l.rows)) ≡ without_negatives (rows_behind l.rows);
+  count : length l.kept.items ≤ l.row-index;
+}

@@ -1,0 +1,63 @@
+-- What is written: which rows, the grid that has them, its text, and the files behind the writing.
+use Rattle.std.specs.Prelude.{◌≡◌, ◌⊎◌, ℕ, ℤ, List, [], ◌++◌, length, take, Option, IsTrue}
+use Rattle.std.specs.Option.{option_map}
+use Rattle.std.specs.List.{Contains, AllByRecursion, flat_map}
+use Rattle.std.specs.FinMap.{insert}
+use Rattle.outside.specs.Files.{Files}
+use Rattle.mat_files.specs.Matrices.{Matrix}
+use Rattle.mat_files.specs.Texts.{head_of, line_of}
+use Rattle.lift_core.specs.declared.Tool.{Tool}
+use Rattle.lift_core.specs.declared.Tool.TheVariants.{Graver, Hilbert, Zsolve}
+use Rattle.lift_core.specs.Systems.{ToolSystem}
+use Rattle.lift_core.specs.Lists.{IsListOf}
+use Rattle.lift_core.specs.Stages.{lex_cmp}
+use Rattle.lift_core.specs.Written.{HasHome, Homogeneous, Inhomogeneous, Every, leads_negative, negated}
+use Rattle.lift_core.specs.Written as core
+use Rattle.solution_files.specs.declared.selection.Kind.{Kind}
+use Rattle.solution_files.specs.declared.selection.Kind.TheVariants.{All, Hom, Inhom}
+
+-- which minimal solutions the rows of a kind come from
+abbrev pub kind_of : Kind → core.Kind
+kind_of All = Every
+kind_of Hom = Homogeneous
+kind_of Inhom = Inhomogeneous
+
+-- x is the first n entries of a finished row of that kind
+pub record IsProjected (finished : List (List ℤ)) (n : ℕ) (kind : core.Kind) (x : List ℤ) : Type 0 where
+  pub solution : List ℤ
+  pub among : Contains finished solution
+  pub home : HasHome kind solution
+  pub is : x ≡ take n solution
+
+-- these are taken; for Graver sets, of a vector and its negative, where both are there, the one that leads positive
+abbrev pub IsTaken : Tool → List (List ℤ) → ℕ → core.Kind → List ℤ → Type 0
+IsTaken Graver finished n kind x = IsProjected finished n kind x × (IsProjected finished n kind (negated x) → IsTrue (leads_negative x) → ⊥)
+IsTaken Hilbert finished n kind x = IsProjected finished n kind x
+IsTaken Zsolve finished n kind x = IsProjected finished n kind x
+
+-- the one list of the rows that are written, in lexicographic order
+abbrev pub IsSelected : ToolSystem → List (List ℤ) → Kind → List (List ℤ) → Type 0
+IsSelected system finished kind rows = IsListOf lex_cmp (IsTaken system.tool finished system.n (kind_of kind)) rows
+
+-- the grid of rows of n entries
+abbrev pub grid_of : ℕ → List (List ℤ) → Matrix
+grid_of n rows = record { rows = length rows; cols = n; cells = flat_map (λ row. row) rows }
+
+-- the grid has the selected rows, each of n entries
+pub record IsSelection (system : ToolSystem) (finished : List (List ℤ)) (kind : Kind) (grid : Matrix) : Type 0 where
+  pub rows : List (List ℤ)
+  pub selected : IsSelected system finished kind rows
+  pub lengths : AllByRecursion (λ row. length row ≡ system.n) rows
+  pub grid_is : grid ≡ grid_of system.n rows
+
+-- the text of rows of n entries: the two counts, and a line for each row
+abbrev pub text_of_rows : ℕ → List (List ℤ) → List ℕ
+text_of_rows n rows = head_of (length rows) n ++ flat_map line_of rows
+
+-- the file has these bytes, and all others are as before
+abbrev pub written : List ℕ → List ℕ → Files → Files
+written name text files = insert files name text
+
+-- a refused writing leaves the file as before, or with a prefix of the text, and all others as before
+abbrev pub MayWrite : List ℕ → List ℕ → Option Files → Option Files → Type 0
+MayWrite name text old new = (new ≡ old) ⊎ ((k : ℕ) × (new ≡ option_map (written name (take k text)) old))

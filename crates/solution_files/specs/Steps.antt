@@ -1,0 +1,55 @@
+-- The steps from the finished rows to the selected ones, and from a file that is begun to one that is written.
+use Rattle.std.specs.Prelude.{◌≡◌, ◌↔◌, ◌≤◌, ◌&&◌, ℕ, ℤ, pos, List, [], ◌++◌, Bool, true, not, Option, map, length, take, nat_abs}
+use Rattle.std.specs.Option.{option_map}
+use Rattle.std.specs.Borrow.{Bor}
+use Rattle.std.specs.List.{Contains, AllByRecursion, filter, list_any}
+use Rattle.std.specs.List.Sorted.{IsStrictlySortedBy}
+use Rattle.std.specs.Ordering.{int_eq}
+use Rattle.std.specs.Cmp.Lexicographic.{pointwise}
+use Rattle.outside.specs.Files.{Files}
+use Rattle.lift_core.specs.Systems.{InRange}
+use Rattle.lift_core.specs.Stages.{last, lex_cmp}
+use Rattle.lift_core.specs.Written.{Kind, Homogeneous, Inhomogeneous, Every, leads_negative, negated}
+use Rattle.solution_files.specs.Outputs.{written}
+
+-- the rows behind references
+abbrev pub rows_behind : List (Bor (List ℤ)) → List (List ℤ)
+rows_behind refs = map (λ r. r.now) refs
+
+-- whether the last entry is that of the kind
+abbrev pub is_of_kind : Kind → List ℤ → Bool
+is_of_kind Homogeneous v = int_eq (last v) (pos 0)
+is_of_kind Inhomogeneous v = int_eq (last v) (pos 1)
+is_of_kind Every v = true
+
+-- the first n entries of each row of the kind
+abbrev pub projected : ℕ → Kind → List (List ℤ) → List (List ℤ)
+projected n kind rows = map (take n) (filter (is_of_kind kind) rows)
+
+-- each row has n entries, all in range
+abbrev pub AreRows : ℕ → List (List ℤ) → Type 0
+AreRows n rows = AllByRecursion (λ row. (length row ≡ n) × AllByRecursion InRange row) rows
+
+-- the rows in lexicographic order, each once
+pub record IsOrdered (before after : List (List ℤ)) : Type 0 where
+  pub ascending : IsStrictlySortedBy lex_cmp after
+  pub members : (x : List ℤ) → Contains after x ↔ Contains before x
+  pub count : length after ≤ length before
+
+-- whether a row is among the rows
+abbrev pub is_among : List (List ℤ) → List ℤ → Bool
+is_among rows x = list_any (λ row. pointwise int_eq row x) rows
+
+-- whether a row leads negative and its negative is among the rows
+abbrev pub is_left_out : List (List ℤ) → List ℤ → Bool
+is_left_out rows x = leads_negative x && is_among rows (negated x)
+
+-- the rows but those
+abbrev pub without_negatives : List (List ℤ) → List (List ℤ)
+without_negatives rows = filter (λ x. not (is_left_out rows x)) rows
+
+-- the file has a front of the text, and the rest of it is to come
+pub record IsPartWritten (name text rest : List ℕ) (old new : Option Files) : Type 0 where
+  pub front : List ℕ
+  pub held : new ≡ option_map (written name front) old
+  pub whole : front ++ rest ≡ text
