@@ -1,0 +1,5 @@
+use Rattle.tool_top.proofs.OutputLemmas.{selected_output}
+use Rattle.tool_top.proofs.outputs.select_output.Goals as goal
+
+pub returns : goal.returns
+returns c = selected_output c.args.finish.now.system c.args.finish.now.rows.rows c.args.kind c.args.part c.in_ok-grid.grid c.requires.kind c.requires.solutions c.in_ok-grid.ensures

@@ -1,0 +1,122 @@
+// How a run ends, and which file an end speaks of.
+ghost use Rattle.std.specs.Prelude.{◌≡◌};
+ghost use Rattle.tool_top.specs.declared.ends.End.TheVariants.{Memory};
+ghost use Rattle.tool_top.specs.Ends.{code_of};
+
+use lift_run::Place;
+use mat_files::TextFault;
+use std::alloc::{AllocError, AllocFailed};
+use system_shape::ShapeFault;
+
+/// A file of a project, by its ending, or standard output.
+#[derive(Clone, Copy, Debug, PartialEq, Eq)]
+pub enum Part {
+    /// `.mat`, the matrix.
+    Mat,
+    /// `.sign`, the signs of the columns.
+    Sign,
+    /// `.rel`, the relations of the rows.
+    Rel,
+    /// `.rhs`, the right sides.
+    Rhs,
+    /// `.lat`, a lattice basis, which is not supported.
+    Lat,
+    /// `.lb`, lower bounds, which are not supported.
+    Lb,
+    /// `.ub`, upper bounds, which are not supported.
+    Ub,
+    /// `.gra`, the Graver basis that is written.
+    Gra,
+    /// `.hil`, the Hilbert basis that is written.
+    Hil,
+    /// `.zhom`, the minimal homogeneous solutions that are written.
+    Zhom,
+    /// `.zinhom`, the minimal inhomogeneous solutions that are written.
+    Zinhom,
+    /// Standard output.
+    Out,
+}
+
+/// How a run ends.
+#[derive(Debug, Drop)]
+pub enum End {
+    /// All is written: how many rows all files have, how many pairs were used, and the sum of the rows' norms.
+    Done {
+        solutions: u64,
+        pairs: u64,
+        norm_total: u128,
+    },
+    /// The words are not those of the command.
+    Usage,
+    /// The file is not there.
+    Missing(Part),
+    /// The file has more than 4,194,304 bytes.
+    TooLong(Part),
+    /// The file's text has this fault.
+    Text(Part, TextFault),
+    /// The file is there, and is not supported.
+    Refused(Part),
+    /// The files do not make a system.
+    Shape(ShapeFault),
+    /// A product of equation `stage`, or a norm of its stage, leaves the range.
+    Overflow {
+        stage: u32,
+        place: Place,
+    },
+    /// The pairs up to this norm are more than the pair budget.
+    Pairs {
+        stage: u32,
+        norm: u64,
+        needed: u64,
+    },
+    /// The rows up to this norm are more than the row budget.
+    Rows {
+        stage: u32,
+        norm: u64,
+        count: u64,
+    },
+    /// A call of the folder or of standard output failed at this file.
+    Outside(Part),
+    /// Memory ran out.
+    Memory,
+}
+
+impl From<AllocError> for End {
+    ghost from_gives = { λ _ e. e ≡ Memory };
+
+    fn from(_: AllocError) -> End {
+        End::Memory
+    }
+}
+
+impl<T: Drop> From<AllocFailed<T>> for End {
+    ghost from_gives = { λ _ e. e ≡ Memory };
+
+    fn from(_: AllocFailed<T>) -> End {
+        End::Memory
+    }
+}
+
+/// The exit status of a program, and the end behind it.
+#[derive(Debug, Drop)]
+pub struct Status {
+    /// 0 where all is done, 1 for wrong words, 2 for a fault of the input, 3 for an overflow, 4 for a spent budget, 5 for
+    /// a device's fault, 6 for want of memory.
+    pub code: u8,
+    pub end: End,
+}
+
+// The exit status of an end.
+pub(crate) fn code(end: &End) -> u8
+    ensures { result ≡ code_of end.now }
+{
+    match end {
+        End::Done { .. } => 0,
+        End::Usage => 1,
+        End::Missing(_) | End::TooLong(_) | End::Text(..) | End::Refused(_) | End::Shape(_) => 2,
+        End::Overflow { .. } => 3,
+        End::Pairs { .. } | End::Rows { .. } => 4,
+        End::Outside(_) => 5,
+        End::Memory => 6,
+    }
+}

@@ -1,0 +1,22 @@
+//! The top call of the programs: from the words of a command and the files of a folder to the files of the minimal
+//! solutions, the summary and the exit status.
+//!
+//! [`run_tool`] carries the theorem of the product: a run that ends well has written exactly the minimal solutions
+//! that its command asks for.
+#![tactic(auto)]
+
+mod ends;
+mod inputs;
+mod names;
+mod outputs;
+mod program;
+mod solving;
+mod summary;
+mod top;
+
+pub use ends::{End, Part, Status};
+pub use program::run_program;
+pub use top::run_tool;
+
+#[cfg(test)]
+mod tests;

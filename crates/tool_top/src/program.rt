@@ -1,0 +1,57 @@
+// What the programs share: the machine's words, folder and streams, handed to the top call.
+
+use crate::run_tool;
+use lift_core::Tool;
+use outside::{DirFolder, StdSink, Words};
+use std::alloc::{AllocError, Global};
+use std::fs::File;
+use std::io::ErrorKind;
+use std::process::ExitCode;
+use std::{env, io};
+
+// The exit statuses that come before the top call.
+const WRONG_WORDS: u8 = 1;
+
+const NO_MEMORY: u8 = 6;
+
+// A file that is always there, and empty.
+const NOTHING: &str = "/dev/null";
+
+// The words of the command, without the program's name.
+fn words_of(alloc: Global, words: env::Args) -> Result<Words, AllocError> {
+    let mut list = Words::new(alloc);
+    for word in words.skip(1) {
+        list.push(word.as_str())?;
+    }
+    Ok(list)
+}
+
+// Three handles that take the numbers of standard streams that are closed. Else a file of the project would get such a
+// number, and what is put on the stream would go into the file. These are for reading alone, so a put fails.
+fn hold_closed_streams(rt: &HostRuntime) -> [io::Result<File>; 3] {
+    [
+        File::open(rt, NOTHING),
+        File::open(rt, NOTHING),
+        File::open(rt, NOTHING),
+    ]
+}
+
+/// Runs a command as a program: on the words that the machine gives, in the current folder, with the standard streams.
+/// Gives the exit status of [`run_tool`]; a word that is no UTF-8 text ends with 1, and want of memory for the words
+/// with 6.
+pub fn run_program(rt: &HostRuntime, tool: Tool) -> ExitCode {
+    let _held = hold_closed_streams(rt);
+    let args = match env::args(rt) {
+        Ok(args) => args,
+        Err(error) if error.kind() == ErrorKind::OutOfMemory => return ExitCode::from(NO_MEMORY),
+        Err(_) => return ExitCode::from(WRONG_WORDS),
+    };
+    let Ok(words) = words_of(rt.alloc(), args) else {
+        return ExitCode::from(NO_MEMORY);
+    };
+    let mut folder = DirFolder::new(rt);
+    let mut out = StdSink::out(rt);
+    let mut err = StdSink::err(rt);
+    let status = run_tool(rt.alloc(), tool, &words, &mut folder, &mut out, &mut err);
+    ExitCode::from(status.code)
+}
