@@ -116,6 +116,65 @@ fn minimal_solutions_are_written(rt: HostRuntime) -> Result<(), Fail> {
             output: &[(".gra", "5 3\n-2 1 0\n-1 2 -1\n0 3 -2\n1 1 -1\n3 0 -1\n")],
             out: "5 solutions, 35 pairs\n",
         },
+        // The moves between tables of three by three.
+        Case {
+            tool: Tool::Graver,
+            input: &[(
+                ".mat",
+                "6 9\n1 1 1 0 0 0 0 0 0\n0 0 0 1 1 1 0 0 0\n0 0 0 0 0 0 1 1 1\n1 0 0 1 0 0 1 0 0\n0 1 0 0 1 0 0 1 0\n0 0 1 0 0 1 0 0 1\n",
+            )],
+            end: "Done { solutions: 15, pairs: 144, norm_total: 72 }",
+            output: &[(
+                ".gra",
+                "15 9\n0 0 0 0 1 -1 0 -1 1\n0 0 0 1 -1 0 -1 1 0\n0 0 0 1 0 -1 -1 0 1\n0 1 -1 -1 0 1 1 -1 0\n0 1 -1 0 -1 1 0 0 0\n0 1 -1 0 0 0 0 -1 1\n0 1 -1 1 -1 0 -1 0 1\n1 -1 0 -1 0 1 0 1 -1\n1 -1 0 -1 1 0 0 0 0\n1 -1 0 0 0 0 -1 1 0\n1 -1 0 0 1 -1 -1 0 1\n1 0 -1 -1 0 1 0 0 0\n1 0 -1 -1 1 0 0 -1 1\n1 0 -1 0 -1 1 -1 1 0\n1 0 -1 0 0 0 -1 0 1\n",
+            )],
+            out: "15 solutions, 144 pairs\n",
+        },
+        // A column that is at most 0, and an inequality.
+        Case {
+            tool: Tool::Hilbert,
+            input: &[(".mat", "1 2\n1 1\n"), (".sign", "1 2\n1 -1\n")],
+            end: "Done { solutions: 1, pairs: 1, norm_total: 2 }",
+            output: &[(".hil", "1 2\n1 -1\n")],
+            out: "1 solutions, 1 pairs\n",
+        },
+        Case {
+            tool: Tool::Hilbert,
+            input: &[(".mat", "1 2\n1 -1\n"), (".rel", "1 1\n<\n")],
+            end: "Done { solutions: 2, pairs: 2, norm_total: 3 }",
+            output: &[(".hil", "2 2\n0 1\n1 1\n")],
+            out: "2 solutions, 2 pairs\n",
+        },
+        // The diagonal, with and without right sides.
+        Case {
+            tool: Tool::Zsolve,
+            input: &[
+                (".mat", "1 2\n1 -1\n"),
+                (".sign", "1 2\n1 1\n"),
+                (".rhs", "1 1\n0\n"),
+            ],
+            end: "Done { solutions: 2, pairs: 1, norm_total: 2 }",
+            output: &[(".zhom", "1 2\n1 1\n"), (".zinhom", "1 2\n0 0\n")],
+            out: "2 solutions, 1 pairs\n",
+        },
+        Case {
+            tool: Tool::Zsolve,
+            input: &[(".mat", "1 2\n1 -1\n"), (".sign", "1 2\n1 1\n")],
+            end: "Done { solutions: 2, pairs: 1, norm_total: 2 }",
+            output: &[(".zhom", "1 2\n1 1\n"), (".zinhom", "1 2\n0 0\n")],
+            out: "2 solutions, 1 pairs\n",
+        },
+        // Seventeen by seventeen.
+        Case {
+            tool: Tool::Hilbert,
+            input: &[(
+                ".mat",
+                "1 34\n1 1 1 1 1 1 1 1 1 1 1 1 1 1 1 1 1 -1 -1 -1 -1 -1 -1 -1 -1 -1 -1 -1 -1 -1 -1 -1 -1 -1\n",
+            )],
+            end: "Done { solutions: 289, pairs: 289, norm_total: 578 }",
+            output: &[],
+            out: "289 solutions, 289 pairs\n",
+        },
         // The polygon: (1, 1) stays because of a slack.
         Case {
             tool: Tool::Zsolve,
@@ -200,6 +259,20 @@ fn the_first_fault_is_the_end(rt: HostRuntime) -> Result<(), Fail> {
             Tool::Zsolve,
             &[(".mat", "1 2\n1 -1\n"), (".sign", "1 1\n1\n")],
             "Shape(SignShape { rows: 1, cols: 1 })",
+        ),
+        refused(
+            Tool::Hilbert,
+            &[(".mat", "1 2\n1 -1\n"), (".rel", "1 2\n< =\n")],
+            "Shape(RelShape { rows: 1, cols: 2 })",
+        ),
+        refused(
+            Tool::Zsolve,
+            &[
+                (".mat", "1 2\n1 -1\n"),
+                (".sign", "1 2\n1 1\n"),
+                (".rhs", "2 1\n0\n0\n"),
+            ],
+            "Shape(RhsShape { rows: 2, cols: 1 })",
         ),
     ];
     for case in &cases {
