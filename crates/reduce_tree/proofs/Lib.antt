@@ -1,0 +1,7 @@
+pub mod Bits
+pub mod Buckets
+pub mod Filing
+pub mod Inserts
+pub mod Parts
+pub mod Signatures
+pub mod Trees

@@ -1,0 +1,33 @@
+-- Where a row is filed: apart by the sign of its last entry, and by its first entry that is not 0.
+use Rattle.std.specs.Prelude.{ℕ, zero, suc, ◌+◌, ◌-◌, ◌*◌, List, [], ◌∷◌, ℤ, pos, negsuc, length, slice_index_or}
+
+-- an item is a column with a sign
+abbrev pub item_at : ℕ → ℤ → ℕ
+item_at column (pos n) = 2 * column
+item_at column (negsuc n) = 2 * column + 1
+
+-- the item of the first entry that is not 0, and after all items for a zero row
+abbrev pub first_item_from : ℕ → List ℤ → ℕ
+first_item_from column [] = 2 * column
+first_item_from column (pos zero ∷ row) = first_item_from (suc column) row
+first_item_from column (pos (suc n) ∷ row) = 2 * column
+first_item_from column (negsuc n ∷ row) = 2 * column + 1
+
+abbrev pub first_item : List ℤ → ℕ
+first_item row = first_item_from 0 row
+
+-- 0, 1 or 2, where the last entry is 0, above it or below it
+abbrev pub part_at : ℤ → ℕ
+part_at (pos zero) = 0
+part_at (pos (suc n)) = 1
+part_at (negsuc n) = 2
+
+abbrev pub part_of : List ℤ → ℕ
+part_of row = part_at (slice_index_or row (length row - 1) (pos 0))
+
+-- the number of the bucket of an item, for rows of a width
+abbrev pub bucket_number : ℕ → ℕ → ℕ → ℕ
+bucket_number width part item = part * (2 * width + 1) + item
+
+abbrev pub bucket_of : List ℤ → ℕ
+bucket_of row = bucket_number (length row) (part_of row) (first_item row)

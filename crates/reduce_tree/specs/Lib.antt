@@ -1,0 +1,6 @@
+pub mod Bits
+pub mod Buckets
+pub mod Items
+pub mod Parts
+pub mod Signatures
+pub mod Tree

@@ -1,0 +1,176 @@
+//! A bucket: rows that are filed alike, by their places, with signatures in blocks.
+
+ghost use Rattle.std.specs.Prelude.{◌≡◌, ◌↔◌, ◌+◌, ◌-◌, ◌*◌, ◌/◌, ◌<◌, ◌≤◌, ◌^◌, ◌++◌, ◌∷◌, ℕ, [], length, take, IsTrue, MatchOption, OnOk, OnErr, bit_and, vec_len, vec_capacity};
+ghost use Rattle.reduce_tree.specs.Buckets.{empty_bucket, with_common, AreMarked, HasNoneBelow, IsBelowAt};
+
+use int_vector::{Visits, below};
+use row_pool::{Pool, RowId};
+use std::alloc::{AllocError, Global};
+use std::marker::Model;
+
+/// Places of rows in the order in which they came. Each has a signature; eight neighbours have a word of bits that all
+/// of them have, and so have 64. A search passes over neighbours whose word is not part of what it looks for.
+#[derive(Drop)]
+pub struct Bucket {
+    places: Vec<u32>,
+    bits: Vec<u128>,
+    eights: Vec<u128>,
+    blocks: Vec<u128>,
+}
+
+impl Model for Bucket {
+    ghost use Rattle.reduce_tree.specs.Buckets.{BucketValue, IsBucket};
+
+    ghost Value = { BucketValue };
+
+    ghost view = { λ b. record { places = b.places.items; bits = b.bits.items } };
+
+    ghost invariant = { λ b. IsBucket b.places.items b.bits.items b.eights.items b.blocks.items };
+}
+
+impl Bucket {
+    /// A bucket without rows.
+    pub fn new(alloc: Global) -> Bucket
+        ensures { result ≡ empty_bucket }
+    {
+        Bucket {
+            places: Vec::new(alloc),
+            bits: Vec::new(alloc),
+            eights: Vec::new(alloc),
+            blocks: Vec::new(alloc),
+        }
+    }
+
+    /// Files one more place. After an error the bucket is as before.
+    pub fn push(&mut self, place: u32, bits: u128) -> Result<(), AllocError>
+        requires { length self.old.bits + 1 < 2 ^ 32 }
+        ensures places { OnOk result (self.new.places ≡ self.old.places ++ place ∷ []) }
+        ensures bits { OnOk result (self.new.bits ≡ self.old.bits ++ bits ∷ []) }
+        ensures err { OnErr result (self.new ≡ self.old) }
+    {
+        self.places.reserve(1)?;
+        self.bits.reserve(1)?;
+        self.eights.reserve(1)?;
+        self.blocks.reserve(1)?;
+        let count = self.bits.len();
+        add_common(&mut self.eights, 8, count, bits);
+        add_common(&mut self.blocks, 64, count, bits);
+        self.places.push_reserved(place);
+        self.bits.push_reserved(bits);
+        Ok(())
+    }
+
+    /// Takes the last place away.
+    pub fn pop(&mut self)
+        requires { 0 < length self.old.places }
+        ensures places { self.new.places ≡ take (length self.old.places - 1) self.old.places }
+        ensures bits { self.new.bits ≡ take (length self.old.places - 1) self.old.bits }
+    {
+        let count = self.places.len() - 1;
+        self.places.truncate(count);
+        self.bits.truncate(count);
+        self.eights.truncate((count + 7) / 8);
+        self.blocks.truncate((count + 63) / 64);
+    }
+
+    /// The place of a row below z, and one visit more for each row that was compared. A row below z has no bit in
+    /// `outside`.
+    pub fn find_below(
+        &self,
+        pool: &Pool,
+        z: &[i64],
+        outside: u128,
+        visits: &mut Visits,
+    ) -> Option<RowId>
+        requires marked { AreMarked self.now.places self.now.bits pool.now.rows z.now outside }
+        requires width { pool.now.width ≡ length z.now }
+        ensures { MatchOption result (HasNoneBelow self.now.places pool.now.rows z.now 0 (length self.now.places)) (λ id. IsBelowAt self.now.places pool.now.rows z.now id.0) }
+    {
+        for block in 0..self.blocks.len() {
+            if !is_apart(self.blocks[block], outside) {
+                continue;
+            }
+            if let Some(id) = self.find_in_block(block, pool, z, outside, visits) {
+                return Some(id);
+            }
+        }
+        None
+    }
+
+    /// The same among the 64 rows of a block.
+    fn find_in_block(
+        &self,
+        block: usize,
+        pool: &Pool,
+        z: &[i64],
+        outside: u128,
+        visits: &mut Visits,
+    ) -> Option<RowId>
+        requires marked { AreMarked self.now.places self.now.bits pool.now.rows z.now outside }
+        requires width { pool.now.width ≡ length z.now }
+        requires block { 64 * block < length self.now.places }
+        ensures { MatchOption result (HasNoneBelow self.now.places pool.now.rows z.now (64 * block) (64 * block + 64)) (λ id. IsBelowAt self.now.places pool.now.rows z.now id.0) }
+    {
+        let count = self.eights.len();
+        let end = count.min(8 * block + 8);
+        for eight in 8 * block..end {
+            if !is_apart(self.eights[eight], outside) {
+                continue;
+            }
+            if let Some(id) = self.find_in_eight(eight, pool, z, outside, visits) {
+                return Some(id);
+            }
+        }
+        None
+    }
+
+    /// The same among eight rows.
+    fn find_in_eight(
+        &self,
+        eight: usize,
+        pool: &Pool,
+        z: &[i64],
+        outside: u128,
+        visits: &mut Visits,
+    ) -> Option<RowId>
+        requires marked { AreMarked self.now.places self.now.bits pool.now.rows z.now outside }
+        requires width { pool.now.width ≡ length z.now }
+        requires eight { 8 * eight < length self.now.places }
+        ensures { MatchOption result (HasNoneBelow self.now.places pool.now.rows z.now (8 * eight) (8 * eight + 8)) (λ id. IsBelowAt self.now.places pool.now.rows z.now id.0) }
+    {
+        let count = self.bits.len();
+        let end = count.min(8 * eight + 8);
+        for k in 8 * eight..end {
+            if !is_apart(self.bits[k], outside) {
+                continue;
+            }
+            visits.add();
+            let id = RowId(self.places[k]);
+            if below(pool.row(id), z) {
+                return Some(id);
+            }
+        }
+        None
+    }
+}
+
+/// Whether two sets of bits have none in common.
+fn is_apart(bits: u128, outside: u128) -> bool
+    ensures { IsTrue result ↔ (bit_and bits outside ≡ 0) }
+{
+    bits & outside == 0
+}
+
+/// Keeps the words of common bits, of which each is for `size` neighbours, where one comes as number `count`.
+fn add_common(words: &mut Vec<u128>, size: usize, count: usize, bits: u128)
+    requires room { vec_len words.old < vec_capacity words.old }
+    requires size { 0 < size }
+    requires count { vec_len words.old ≡ (count + (size - 1)) / size }
+    ensures { words.new.items ≡ with_common size count bits words.old.items }
+{
+    if count % size == 0 {
+        words.push_reserved(bits);
+    } else {
+        words[count / size] &= bits;
+    }
+}
