@@ -3,5 +3,6 @@ pub mod Buckets
 pub mod Filing
 pub mod Inserts
 pub mod Parts
+pub mod Pools
 pub mod Signatures
 pub mod Trees

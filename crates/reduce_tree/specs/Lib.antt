@@ -1,6 +1,7 @@
 pub mod Bits
 pub mod Buckets
 pub mod Items
+pub mod Laws
 pub mod Parts
 pub mod Signatures
 pub mod Tree

@@ -3,6 +3,7 @@
 
 mod bucket;
 mod items;
+pub mod laws;
 mod signature;
 mod tree;
 
