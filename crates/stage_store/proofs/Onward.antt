@@ -12,6 +12,8 @@ use Rattle.lift_core.proofs.Lists.{contains_cases, contains_nothing, each_contai
 use Rattle.lift_core.proofs.Orders.{from_filter}
 use Rattle.lift_core.proofs.Places.{grown_listed, still_waits, used_next}
 use Rattle.row_pool.specs.Rows.{PoolValue}
+use Rattle.reduce_tree.specs.Tree.{TreeValue}
+use Rattle.stage_store.specs.Indexed.{HoldsRows}
 use Rattle.stage_store.specs.Classes.{ClassValue, AreClasses, with_class, pairs_of}
 use Rattle.stage_store.specs.Stage.{StageValue, IsStage, IsStageRow, Holds, IsDefined, used_of}
 use Rattle.stage_store.specs.Published.{IsGrowth, IsPublished, IsFurther}
@@ -81,17 +83,18 @@ pub value_after : (S : ToolSystem) (k d b e waited taken : ℕ) (listed new grow
     → value_of S k e b grown (drop (waited + taken) waiting) ≡ after (value_of S k d b listed (drop waited waiting)) e (listed ++ new) (drop taken (drop waited waiting))
 value_after S k d b e waited taken listed new grown waiting is = ap₂ (λ (l w : List (List ℤ)). value_of S k e b l w) is (sym (drop-drop taken waited waiting))
 
-pub holds_after : (S : ToolSystem) (k d b e limit waited used : ℕ) (listed grown waiting : PoolValue) (plus minus plus' minus' : List ClassValue) (g : Growth)
-    → Holds (value_of S k d b listed.rows (drop waited waiting.rows)) listed waiting waited used plus minus
+pub holds_after : (S : ToolSystem) (k d b e limit waited used : ℕ) (listed grown : PoolValue) (tree tree' : TreeValue) (waiting : PoolValue) (plus minus plus' minus' : List ClassValue) (g : Growth)
+    → Holds (value_of S k d b listed.rows (drop waited waiting.rows)) listed tree waiting waited used plus minus
     → IsNextNorm listed.rows (drop waited waiting.rows) d e → e ≤ largest → limit ≤ 2 ^ 21 → IsGrowth (value_of S k d b listed.rows (drop waited waiting.rows)) e limit g
-    → grown.width ≡ listed.width → grown.rows ≡ listed.rows ++ g.rows.rows → plus' ≡ with_class g.plus.norm g.plus.ids plus → minus' ≡ with_class g.minus.norm g.minus.ids minus
-    → Holds (value_of S k e b grown.rows (drop (waited + g.taken) waiting.rows)) grown waiting (waited + g.taken) (used + g.pairs) plus' minus'
-holds_after S k d b e limit waited used listed grown waiting plus minus plus' minus' g h next small most growth w is p m =
+    → grown.width ≡ listed.width → grown.rows ≡ listed.rows ++ g.rows.rows → HoldsRows tree' grown → plus' ≡ with_class g.plus.norm g.plus.ids plus → minus' ≡ with_class g.minus.norm g.minus.ids minus
+    → Holds (value_of S k e b grown.rows (drop (waited + g.taken) waiting.rows)) grown tree' waiting (waited + g.taken) (used + g.pairs) plus' minus'
+holds_after S k d b e limit waited used listed grown tree tree' waiting plus minus plus' minus' g h next small most growth w is i p m =
     let s : StageValue = value_of S k d b listed.rows (drop waited waiting.rows) in
     let t : value_of S k e b grown.rows (drop (waited + g.taken) waiting.rows) ≡ after (value_of S k d b listed.rows (drop waited waiting.rows)) e (listed.rows ++ g.rows.rows) (drop g.taken (drop waited waiting.rows)) = value_after S k d b e waited g.taken listed.rows g.rows.rows grown.rows waiting.rows is in
     record {
       stage = subst (λ (v : StageValue). IsStage v) (sym t) (stage_after (value_of S k d b listed.rows (drop waited waiting.rows)) e limit g h.stage next small most growth);
       listed_width = w ∙ h.listed_width;
+      indexed = i;
       waiting_width = h.waiting_width;
       waited_inside = omega (arith, growth.taken_inside, length-drop waited waiting.rows, h.waited_inside);
       waiting_most = h.waiting_most;

@@ -18,6 +18,7 @@ use Rattle.lift_core.proofs.Places.{all_used, solutions_are, nothing_listed, sol
 use Rattle.lift_core.proofs.Walks.{first_used}
 use Rattle.lift_core.proofs.Orders.{before_pushed, from_map, map_ascending}
 use Rattle.row_pool.specs.Rows.{PoolValue}
+use Rattle.reduce_tree.specs.Tree.{TreeValue}
 use Rattle.stage_store.specs.Classes.{ClassValue, AreClasses}
 use Rattle.stage_store.specs.Stage.{StageValue, IsStage, IsStageRow, Holds, IsDefined, used_of}
 use Rattle.stage_store.specs.Lifted.{AreExtended, IsStart, StartsAt, StartsOr, IsFirst, IsLift, IsLiftedDefined}
@@ -26,6 +27,7 @@ use Rattle.stage_store.specs.declared.stage.Lifted.TheVariants.{Next, Last}
 use Rattle.stage_store.specs.declared.stage.LiftEnd.{LiftEnd}
 use Rattle.stage_store.specs.declared.stage.LiftEnd.TheVariants.{Overflow}
 use Rattle.stage_store.proofs.UnitVectors.{units_stay}
+use Rattle.stage_store.proofs.Indexed.{holds_nothing}
 use Rattle.stage_store.proofs.Onward.{value_of}
 
 nothing_sorted : IsStrictlySortedBy norm_cmp []
@@ -72,16 +74,17 @@ module _ (S : ToolSystem) (k : ℕ) (solutions : List (List ℤ)) (solve : AllBy
     waiting_length = omega (arith, length-map solutions (extend (row S.equations k)), count);
   }
 
-pub start_holds : (S : ToolSystem) (k used : ℕ) (solutions : List (List ℤ)) (listed waiting : PoolValue) (plus minus : List ClassValue)
+pub start_holds : (S : ToolSystem) (k used : ℕ) (solutions : List (List ℤ)) (listed : PoolValue) (tree : TreeValue) (waiting : PoolValue) (plus minus : List ClassValue)
     → AllByRecursion (Solves S.equations (k - 1)) solutions → AllByRecursion (λ v. 0 < norm v) solutions → AllByRecursion (λ v. norm v ≤ largest) solutions
     → IsToolSystem S → 0 < k → k ≤ length S.equations.rows → used ≤ 2 ^ 62 + k * 2 ^ 42 → IsStrictlySortedBy solution_cmp solutions → length solutions ≤ 2 ^ 21
-    → listed.width ≡ width S.equations + 1 → listed.rows ≡ [] → AreExtended S k solutions waiting → plus ≡ [] → minus ≡ []
-    → Holds (value_of S k 0 used listed.rows waiting.rows) listed waiting 0 used plus minus
-start_holds S k used solutions listed waiting plus minus solve positive small kept from to most order count w nothing e p m =
+    → listed.width ≡ width S.equations + 1 → listed.rows ≡ [] → tree.width ≡ width S.equations + 1 → tree.filed ≡ [] → AreExtended S k solutions waiting → plus ≡ [] → minus ≡ []
+    → Holds (value_of S k 0 used listed.rows waiting.rows) listed tree waiting 0 used plus minus
+start_holds S k used solutions listed tree waiting plus minus solve positive small kept from to most order count w nothing tw none e p m =
     let is : value_of S k 0 used [] (map (extend (row S.equations k)) solutions) ≡ value_of S k 0 used listed.rows waiting.rows = ap₂ (λ (l r : List (List ℤ)). value_of S k 0 used l r) (sym nothing) (sym e.rows_are) in
     record {
       stage = subst (λ (v : StageValue). IsStage v) is (start_is_stage S k solutions solve positive small used kept from to most order count);
       listed_width = w;
+      indexed = holds_nothing tree listed (tw ∙ sym w) none nothing;
       waiting_width = e.width_is;
       waited_inside = omega arith;
       waiting_most = omega (arith, ap length e.rows_are, length-map solutions (extend (row S.equations k)), count);

@@ -3,6 +3,8 @@ pub use Rattle.lift_core.specs.Systems
 pub use Rattle.lift_core.specs.Stages
 pub use Rattle.lift_core.specs.Ends
 pub use Rattle.row_pool.specs.Rows
+pub use Rattle.reduce_tree.specs.Tree
+pub mod Indexed
 pub mod Classes
 pub mod Least
 pub mod Stage

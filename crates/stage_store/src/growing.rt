@@ -1,14 +1,16 @@
 //! What a closed norm adds to a stage: the merge of the waiting rows and the sums, and the classes of the new rows.
 
-ghost use Rattle.std.specs.Prelude.{◌≡◌, ◌↔◌, IsTrue, ◌+◌, ◌-◌, ◌<◌, ◌≤◌, ◌^◌, ◌++◌, ℕ, List, [], length, take, drop, slice_index_or, IfOk, vec_len, vec_capacity};
+ghost use Rattle.std.specs.Prelude.{◌≡◌, ◌↔◌, IsTrue, ◌+◌, ◌-◌, ◌<◌, ◌≤◌, ◌^◌, ◌++◌, ℕ, List, [], length, take, drop, slice_index_or, IfOk, OnOk, OnErr, vec_len, vec_capacity};
 ghost use Rattle.std.specs.List.{AllByRecursion};
 ghost use Rattle.std.specs.List.Sorted.{IsStrictlySortedBy};
 ghost use Rattle.lift_core.specs.Stages.{lex_cmp, stage_norm};
+ghost use Rattle.stage_store.specs.Indexed.{HoldsRows};
 ghost use Rattle.stage_store.specs.Merge.{merged};
 ghost use Rattle.stage_store.specs.Classes.{places, sign_test, with_class};
 
 use crate::class::Class;
 use int_vector::{lex, norm};
+use reduce_tree::Tree;
 use row_pool::{Pool, RowId};
 use std::alloc::{AllocError, Global};
 use std::cmp::Ordering;
@@ -118,6 +120,31 @@ fn append_part(listed: &mut Pool, rows: &Pool, from: u32, to: u32)
     for i in from..to {
         listed.push(rows.row(RowId(i)));
     }
+}
+
+/// Lists rows, in the pool and in the tree that holds its rows. After an error both hold the rows that they held.
+pub fn list_rows(listed: &mut Pool, tree: &mut Tree, rows: &Pool) -> Result<(), AllocError>
+    requires held { HoldsRows tree.old listed.old }
+    requires width { listed.old.width ≡ rows.now.width }
+    requires room { length rows.now.rows ≤ listed.old.spare }
+    ensures ok { OnOk result (listed.new.rows ≡ listed.old.rows ++ rows.now.rows) }
+    ensures err { OnErr result (listed.new.rows ≡ listed.old.rows) }
+    ensures width { listed.new.width ≡ listed.old.width }
+    ensures held { HoldsRows tree.new listed.new }
+{
+    let from = listed.len();
+    listed.append_from(rows);
+    for i in from..listed.len() {
+        match tree.insert(listed, RowId(i)) {
+            Ok(()) => {}
+            Err(refused) => {
+                tree.truncate(from);
+                listed.truncate(from);
+                return Err(refused);
+            }
+        }
+    }
+    Ok(())
 }
 
 /// Whether the last entry is above 0, or below it.

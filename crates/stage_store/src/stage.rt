@@ -18,10 +18,11 @@ ghost use Rattle.stage_store.specs.Published.{IsClosedNorm, IsPublish, IsFurther
 
 use crate::class::{Class, count_pairs, find_pair, lesser, pair_norm_above};
 use crate::gathering::{Found, take_norm};
-use crate::growing::{add_class, class_of, merged_rows, waits_up_to};
+use crate::growing::{add_class, class_of, list_rows, merged_rows, waits_up_to};
 use crate::lifting::{extended, kept_solutions, units};
-use int_vector::{Visits, add_into, below, conformal, norm};
+use int_vector::{Visits, add_into, conformal, norm};
 use lift_core::{IntRow, System};
+use reduce_tree::Tree;
 use row_pool::{Pool, RowId};
 use std::alloc::{AllocError, Global};
 use std::marker::Model;
@@ -116,6 +117,7 @@ pub struct Stage {
     before: u64,
     used: u64,
     listed: Pool,
+    tree: Tree,
     waiting: Pool,
     waited: u32,
     plus: Vec<Class>,
@@ -130,7 +132,7 @@ impl Model for Stage {
 
     ghost view = { λ s. record { system = s.system; number = s.number; norm = s.norm; before = s.before; listed = s.listed.rows; waiting = drop s.waited s.waiting.rows } };
 
-    ghost invariant = { λ s. Holds (record { system = s.system; number = s.number; norm = s.norm; before = s.before; listed = s.listed.rows; waiting = drop s.waited s.waiting.rows }) s.listed s.waiting s.waited s.used s.plus.items s.minus.items };
+    ghost invariant = { λ s. Holds (record { system = s.system; number = s.number; norm = s.norm; before = s.before; listed = s.listed.rows; waiting = drop s.waited s.waiting.rows }) s.listed s.tree s.waiting s.waited s.used s.plus.items s.minus.items };
 }
 
 impl Stage {
@@ -177,6 +179,7 @@ impl Stage {
         system.keeps();
         let waiting = extended(alloc, &system, number, &solutions)?;
         let listed = Pool::new(alloc, system.width() + 1);
+        let tree = Tree::new(alloc, system.width() + 1);
         Ok(Lifted::Next(Stage {
             alloc,
             system,
@@ -185,6 +188,7 @@ impl Stage {
             before: used,
             used,
             listed,
+            tree,
             waiting,
             waited: 0,
             plus: Vec::new(alloc),
@@ -334,13 +338,7 @@ impl Stage {
         requires { length z.now ≡ width self.now.system.equations + 1 }
         ensures { MatchOption result (IsIrreducible self.now.listed z.now) (λ i. (i.0 < length self.now.listed) × (slice_index_or self.now.listed i.0 [] ⊑ z.now)) }
     {
-        for i in 0..self.len() {
-            visits.add();
-            if below(self.row(RowId(i)), z) {
-                return Some(RowId(i));
-            }
-        }
-        None
+        self.tree.find_below(&self.listed, z, visits)
     }
 
     /// The sum of a pair, where it has one.
@@ -427,7 +425,7 @@ impl Stage {
         self.listed.reserve(growth.rows.len())?;
         self.plus.reserve(1)?;
         self.minus.reserve(1)?;
-        self.listed.append_from(&growth.rows);
+        list_rows(&mut self.listed, &mut self.tree, &growth.rows)?;
         add_class(&mut self.plus, growth.plus);
         add_class(&mut self.minus, growth.minus);
         self.waited += growth.taken;
