@@ -8,7 +8,7 @@ abbrev pub marks_of : ℕ → List ℕ → ℕ → ℕ
 marks_of bit [] size = 0
 marks_of bit (t ∷ ts) size = cond (nat_lt size t) 0 (bit_or (2 ^ (bit % 128)) (marks_of (suc bit) ts size))
 
--- the marks of an entry: each item has `levels` thresholds, and its bits follow those of the item before
+-- the marks of an entry: each item has marks for the first `levels` thresholds, and its bits follow those of the item before
 abbrev pub entry_marks : ℕ → ℕ → ℤ → ℕ
 entry_marks levels column x = marks_of (item_at column x * levels) (take levels THRESHOLDS) (nat_abs x)
 

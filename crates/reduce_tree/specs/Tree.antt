@@ -1,4 +1,4 @@
--- A tree as contracts see it: the places of rows in the order in which they were inserted, with where each was filed.
+-- A tree as contracts see it: what was inserted, in order. A caller needs `places_of`, `Fits` and `AreNotBelow`; the rest says how it is filed.
 use Rattle.std.specs.Prelude.{◌≡◌, ℕ, ◌+◌, ◌*◌, ◌<◌, ◌≤◌, ◌⊎◌, ◌==◌, ℤ, List, [], length, map, slice_index_or}
 use Rattle.std.specs.List.{AllByRecursion, Contains, filter}
 use Rattle.int_vector.specs.Vectors.{◌⊑◌}
@@ -8,6 +8,7 @@ use Rattle.reduce_tree.specs.Buckets.{BucketValue, empty_bucket}
 use Rattle.reduce_tree.specs.Items.{bucket_of}
 use Rattle.reduce_tree.specs.Signatures.{signature_of}
 
+-- the width of the rows, for how many thresholds each item has marks, and the places with where they are filed
 pub record TreeValue : Type 0 where
   pub width : ℕ
   pub levels : ℕ
@@ -29,7 +30,7 @@ pub record StandsAt (levels : ℕ) (rows : List (List ℤ)) (f : Filed) : Type 0
   pub bucket : f.bucket ≡ bucket_of (slice_index_or rows f.place [])
   pub bits : f.bits ≡ signature_of levels (slice_index_or rows f.place [])
 
--- the rows of the pool stand where the tree files them
+-- at each place that was inserted the pool has a row, with the bucket and the signature that are filed; a tree without rows fits each pool of its width
 pub record Fits (t : TreeValue) (p : PoolValue) : Type 0 where
   pub width : p.width ≡ t.width
   pub rows : AllByRecursion (StandsAt t.levels p.rows) t.filed

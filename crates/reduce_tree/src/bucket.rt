@@ -1,4 +1,4 @@
-//! A bucket: rows that are filed alike, by their places, with signatures in blocks.
+//! A bucket: the places of rows that are filed alike, with their signatures in eights and blocks.
 
 ghost use Rattle.std.specs.Prelude.{◌≡◌, ◌↔◌, ◌+◌, ◌-◌, ◌*◌, ◌/◌, ◌<◌, ◌≤◌, ◌^◌, ◌++◌, ◌∷◌, ℕ, [], length, take, IsTrue, MatchOption, OnOk, OnErr, bit_and, vec_len, vec_capacity};
 ghost use Rattle.reduce_tree.specs.Buckets.{empty_bucket, with_common, AreMarked, HasNoneBelow, IsBelowAt};
@@ -8,8 +8,11 @@ use row_pool::{Pool, RowId};
 use std::alloc::{AllocError, Global};
 use std::marker::Model;
 
-/// Places of rows in the order in which they came. Each has a signature; eight neighbours have a word of bits that all
-/// of them have, and so have 64. A search passes over neighbours whose word is not part of what it looks for.
+/// Places of rows in the order in which they came.
+///
+/// `bits` has the signature of each. `eights` and `blocks` have a word for each 8 and each 64 neighbours, whose bits
+/// all of these have. So no row below z is among neighbours whose word has a bit outside the signature of z. After `pop`
+/// a word may lack bits that all its neighbours have: then a search may compare more rows, and finds one as before.
 #[derive(Drop)]
 pub struct Bucket {
     places: Vec<u32>,
@@ -41,7 +44,7 @@ impl Bucket {
         }
     }
 
-    /// Files one more place. After an error the bucket is as before.
+    /// Files one more place, with the signature of its row. After an error the bucket is as before.
     pub fn push(&mut self, place: u32, bits: u128) -> Result<(), AllocError>
         requires { length self.old.bits + 1 < 2 ^ 32 }
         ensures places { OnOk result (self.new.places ≡ self.old.places ++ place ∷ []) }
@@ -73,8 +76,9 @@ impl Bucket {
         self.blocks.truncate((count + 63) / 64);
     }
 
-    /// The place of a row below z, and one visit more for each row that was compared. A row below z has no bit in
-    /// `outside`.
+    /// The place of a row below z. `outside` has the bits that z's signature lacks, of which a row below z has none.
+    ///
+    /// Counts a visit for each row that is compared with z.
     pub fn find_below(
         &self,
         pool: &Pool,
@@ -97,7 +101,7 @@ impl Bucket {
         None
     }
 
-    /// The same among the 64 rows of a block.
+    /// The same among the rows of a block.
     fn find_in_block(
         &self,
         block: usize,
@@ -124,7 +128,7 @@ impl Bucket {
         None
     }
 
-    /// The same among eight rows.
+    /// The same among the rows of an eight.
     fn find_in_eight(
         &self,
         eight: usize,
@@ -161,7 +165,7 @@ fn is_apart(bits: u128, outside: u128) -> bool
     bits & outside == 0
 }
 
-/// Keeps the words of common bits, of which each is for `size` neighbours, where one comes as number `count`.
+/// Keeps the words of common bits, each for `size` neighbours, where a signature comes as number `count`.
 fn add_common(words: &mut Vec<u128>, size: usize, count: usize, bits: u128)
     requires room { vec_len words.old < vec_capacity words.old }
     requires size { 0 < size }

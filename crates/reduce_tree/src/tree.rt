@@ -18,7 +18,7 @@ use row_pool::{Pool, RowId};
 use std::alloc::{AllocError, Global};
 use std::marker::Model;
 
-/// A place that was inserted, with the bucket and the signature of its row.
+/// A place that was inserted, with the number of the bucket and the signature of its row.
 #[derive(Clone, Copy)]
 pub struct Filed {
     pub place: u32,
@@ -26,15 +26,19 @@ pub struct Filed {
     pub bits: u128,
 }
 
-/// Places of rows, filed so that one below a vector is found fast.
+/// Places of rows of a pool, filed so that one below a vector is found without a look at each row.
 ///
-/// A row is filed apart by the sign of its last entry, in the bucket of its first entry that is not 0.
+/// The rows stay in the pool. A call is given a pool that the tree fits: at each place that was inserted it has a row
+/// with the bucket and the signature that are filed, as a pool has whose rows there are still the same.
 #[derive(Drop)]
 pub struct Tree {
     alloc: Global,
     width: u32,
+    /// For how many thresholds each item has marks.
     levels: u32,
+    /// What was inserted, in order.
     filed: Vec<Filed>,
+    /// None until a row is inserted, then as many as `bucket_count` says.
     buckets: Vec<Bucket>,
 }
 
@@ -60,7 +64,7 @@ impl Tree {
         Tree {
             alloc,
             width,
-            // As many thresholds as 128 bits have room for, of both signs of each column.
+            // As many marks for each of the `2 * width` items as 128 bits have room for.
             levels: (64 / width.max(1)).clamp(1, 16),
             filed: Vec::new(alloc),
             buckets: Vec::new(alloc),
@@ -74,7 +78,8 @@ impl Tree {
         self.filed.len() as u32
     }
 
-    /// Files the row at a place of the pool. After an error the tree is as before.
+    /// Files the row at a place of the pool. An error says that memory is not enough, or that the tree already has
+    /// 2^32-1 places. After it the tree is as before.
     pub fn insert(&mut self, pool: &Pool, id: RowId) -> Result<(), AllocError>
         requires fits { Fits self.old pool.now }
         requires place { id.0 < length pool.now.rows }
@@ -99,9 +104,9 @@ impl Tree {
         Ok(())
     }
 
-    /// The place of an inserted row that is below z, and one visit more for each row that was compared with z.
+    /// The place of an inserted row that is below z, and `None` exactly where no inserted row is.
     ///
-    /// `None` exactly where no inserted row is below z.
+    /// Counts a visit for each row that is compared with z. How many those are, no clause says.
     pub fn find_below(&self, pool: &Pool, z: &[i64], visits: &mut Visits) -> Option<RowId>
         requires fits { Fits self.now pool.now }
         requires width { length z.now ≡ pool.now.width }
@@ -111,7 +116,7 @@ impl Tree {
             return None;
         }
         let outside = !signature(z, self.levels as usize);
-        // Rows with last entry 0 may be below any vector, and others where the sign is the same.
+        // A row below z has the last entry 0, or one with the sign of z's.
         if let Some(id) = find_in_part(&self.buckets, 0, pool, z, outside, visits) {
             return Some(id);
         }
@@ -122,7 +127,7 @@ impl Tree {
         find_in_part(&self.buckets, part, pool, z, outside, visits)
     }
 
-    /// Keeps the first `len` places. A pool that the tree fitted is fitted still.
+    /// Keeps the first `len` places. The tree still fits each pool that it fitted.
     pub fn truncate(&mut self, len: u32)
         requires { len ≤ length (places_of self.old) }
         ensures places { places_of self.new ≡ take len (places_of self.old) }
@@ -139,7 +144,7 @@ impl Tree {
     }
 }
 
-/// Where a row is filed.
+/// A place with what the search needs of the row there.
 fn file(row: &[i64], place: u32, levels: usize) -> Filed
     requires narrow { length row.now ≤ 130 }
     requires levels { levels ≤ 16 }
@@ -178,7 +183,7 @@ fn empty_buckets(alloc: Global, count: usize) -> Result<Vec<Bucket>, AllocError>
     Ok(buckets)
 }
 
-/// The place of a row of a part that is below z.
+/// The place of a row of a part that is below z. `outside` has the bits that z's signature lacks.
 fn find_in_part(
     buckets: &[Bucket],
     part: usize,
