@@ -10,7 +10,7 @@ use Rattle.row_pool.specs.declared.RowId.{RowId}
 use Rattle.row_pool.specs.Rows.{PoolValue}
 use Rattle.reduce_tree.specs.Tree.{TreeValue, Fits, StandsAt, places_of, AreNotBelow}
 use Rattle.reduce_tree.specs.declared.tree.Filed.{Filed}
-use Rattle.reduce_tree.proofs.Pools.{fits_grown, fits_cut}
+use Rattle.reduce_tree.proofs.Pools.{fits_cut}
 use Rattle.stage_store.specs.Indexed.{HoldsRows}
 
 pub holds_nothing : (tree : TreeValue) (listed : PoolValue) → tree.width ≡ listed.width → tree.filed ≡ [] → listed.rows ≡ [] → HoldsRows tree listed

@@ -9,6 +9,7 @@ pub mod Merge
 pub mod Publish
 pub mod Merging
 pub mod Signs
+pub mod SignLines
 pub mod Closing
 pub mod Used
 pub mod Front
@@ -18,3 +19,4 @@ pub mod Kept
 pub mod Starting
 pub mod Ordered
 pub mod Gains
+pub mod Skipped

@@ -196,6 +196,9 @@ filter_le test (x ∷ xs) = elim (cases_Bool (test x)) [
   | inr t ↦ rw t (omega (arith, filter_le test xs))
 ]
 
+pub ids_few : (listed : List (List ℤ)) (cs : List ClassValue) (test : List ℤ → Bool) (n : ℕ) → AreClasses listed test cs → length (ids_at cs n) ≤ length listed
+ids_few listed cs test n h = omega (arith, ids_at-le listed cs n, ap length h.rows, filter_le test listed)
+
 square : (a b : ℕ) → a ≤ b → a * b ≤ b * b
 square a b h = grind arith
 
@@ -214,11 +217,11 @@ each_append : {A : Type 0} (P : A → Type 0) (xs ys : List A) → AllByRecursio
 each_append P [] ys h k = k
 each_append P (x ∷ xs) ys h k = (h.0, each_append P xs ys h.1 k)
 
-inside_ids : (listed : List (List ℤ)) (n : ℕ) (ids : List ℕ) → AllByRecursion (IsPlace listed n) ids → AllByRecursion (λ i. i < length listed) ids
+pub inside_ids : (listed : List (List ℤ)) (n : ℕ) (ids : List ℕ) → AllByRecursion (IsPlace listed n) ids → AllByRecursion (λ i. i < length listed) ids
 inside_ids listed n [] h = tt
 inside_ids listed n (i ∷ ids) h = (h.0.inside, inside_ids listed n ids h.1)
 
-inside_at : (listed : List (List ℤ)) (cs : List ClassValue) (n : ℕ) → AllByRecursion (IsClass listed) cs → AllByRecursion (λ i. i < length listed) (ids_at cs n)
+pub inside_at : (listed : List (List ℤ)) (cs : List ClassValue) (n : ℕ) → AllByRecursion (IsClass listed) cs → AllByRecursion (λ i. i < length listed) (ids_at cs n)
 inside_at listed [] n h = tt
 inside_at listed (c ∷ cs) n h = elim (cases_Bool (c.norm == n)) [
   | inl t ↦ rw t (each_append (λ i. i < length listed) c.ids (ids_at cs n) (inside_ids listed c.norm c.ids h.0.places) (inside_at listed cs n h.1))

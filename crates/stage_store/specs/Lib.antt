@@ -6,6 +6,8 @@ pub use Rattle.row_pool.specs.Rows
 pub use Rattle.reduce_tree.specs.Tree
 pub mod Indexed
 pub mod Classes
+pub mod Clashes
+pub mod Signs
 pub mod Least
 pub mod Stage
 pub mod Answers

@@ -6,9 +6,11 @@ ghost use Rattle.lift_core.specs.Systems.{width};
 ghost use Rattle.std.specs.List.Sorted.{IsStrictlySortedBy};
 ghost use Rattle.lift_core.specs.Stages.{lex_cmp, has_positive_last, has_negative_last};
 ghost use Rattle.row_pool.specs.Rows.{InRange};
-ghost use Rattle.stage_store.specs.Classes.{AreClasses, ids_of};
-ghost use Rattle.stage_store.specs.Found.{FoundValue, ComesAt, IsPairPlace, GainsSums, place_pair};
+ghost use Rattle.stage_store.specs.Clashes.{HasLines, TellsOf};
+ghost use Rattle.stage_store.specs.Classes.{AreClasses, ids_of, rows_at};
+ghost use Rattle.stage_store.specs.Found.{FoundValue, ComesAt, IsPairPlace, GainsSums, HaveNoSums, place_pair};
 
+use crate::clashes::Clashes;
 use crate::class::{Class, ids_of_norm};
 use crate::stage::Stage;
 use int_vector::{Visits, lex};
@@ -123,28 +125,70 @@ fn take_sum(
     }
 }
 
-/// Takes in the sums of the pairs of one first row.
-fn take_row(
+/// Takes in the sums of the pairs of one first row with at most 64 second rows, each of which has a bit of `clashing`
+/// that tells, where it is set, that the pair has no sum.
+fn take_word(
     stage: &Stage,
     f: u32,
     seconds: &[u32],
+    clashing: u64,
     sum: &mut [i64],
     found: &mut Found,
 ) -> Result<(), AllocError>
     requires pairs { AllByRecursion (IsPairPlace stage.now.listed) (map (place_pair f) seconds.now) }
+    requires most { length seconds.now ≤ 64 }
+    requires clashing { HaveNoSums stage.now.system.equations stage.now.listed f seconds.now clashing }
     requires room { length sum.old ≡ width stage.now.system.equations + 1 }
     requires width { found.old.width ≡ width stage.now.system.equations + 1 }
     ensures room { length sum.new ≡ length sum.old }
     ensures gains { OnOk result (GainsSums stage.now.system.equations stage.now.listed (map (place_pair f) seconds.now) found.old found.new) }
 {
-    for g in seconds {
-        take_sum(stage, f, *g, sum, found)?;
+    if clashing == u64::MAX {
+        return Ok(());
+    }
+    for k in 0..seconds.len() {
+        if (clashing >> k) & 1 == 1 {
+            continue;
+        }
+        take_sum(stage, f, seconds[k], sum, found)?;
+    }
+    Ok(())
+}
+
+/// Takes in the sums of the pairs of one first row.
+fn take_row(
+    stage: &Stage,
+    f: u32,
+    seconds: &[u32],
+    clashes: &Clashes,
+    sum: &mut [i64],
+    found: &mut Found,
+) -> Result<(), AllocError>
+    requires first { f < length stage.now.listed }
+    requires pairs { AllByRecursion (IsPairPlace stage.now.listed) (map (place_pair f) seconds.now) }
+    requires few { length seconds.now ≤ 2 ^ 21 }
+    requires lines { HasLines (width stage.now.system.equations) clashes.now }
+    requires tells { TellsOf (width stage.now.system.equations) (rows_at stage.now.listed seconds.now) clashes.now }
+    requires room { length sum.old ≡ width stage.now.system.equations + 1 }
+    requires width { found.old.width ≡ width stage.now.system.equations + 1 }
+    ensures room { length sum.new ≡ length sum.old }
+    ensures gains { OnOk result (GainsSums stage.now.system.equations stage.now.listed (map (place_pair f) seconds.now) found.old found.new) }
+{
+    stage.keeps();
+    let width = stage.system().width() as usize;
+    let first = &stage.row(RowId(f))[..width];
+    for word in 0..(seconds.len() + 63) / 64 {
+        let from = 64 * word;
+        let to = seconds.len().min(from + 64);
+        let clashing = clashes.clashing(word, first);
+        take_word(stage, f, &seconds[from..to], clashing, sum, found)?;
     }
     Ok(())
 }
 
 /// Takes in the sums of the pairs of the first rows and the second rows.
 fn take_class(
+    alloc: Global,
     stage: &Stage,
     firsts: &[u32],
     seconds: &[u32],
@@ -152,19 +196,24 @@ fn take_class(
     found: &mut Found,
 ) -> Result<(), AllocError>
     requires pairs { AllByRecursion (IsPairPlace stage.now.listed) (flat_map (λ i. map (place_pair i) seconds.now) firsts.now) }
+    requires firsts { AllByRecursion (λ i. i < length stage.now.listed) firsts.now }
+    requires seconds { AllByRecursion (λ i. i < length stage.now.listed) seconds.now }
+    requires few { length seconds.now ≤ 2 ^ 21 }
     requires room { length sum.old ≡ width stage.now.system.equations + 1 }
     requires width { found.old.width ≡ width stage.now.system.equations + 1 }
     ensures room { length sum.new ≡ length sum.old }
     ensures gains { OnOk result (GainsSums stage.now.system.equations stage.now.listed (flat_map (λ i. map (place_pair i) seconds.now) firsts.now) found.old found.new) }
 {
+    let clashes = Clashes::of(alloc, stage, seconds)?;
     for f in firsts {
-        take_row(stage, *f, seconds, sum, found)?;
+        take_row(stage, *f, seconds, &clashes, sum, found)?;
     }
     Ok(())
 }
 
 /// Takes in the sums of the pairs of norm e.
 pub fn take_norm(
+    alloc: Global,
     stage: &Stage,
     plus: &[Class],
     minus: &[Class],
@@ -179,9 +228,10 @@ pub fn take_norm(
     requires width { found.old.width ≡ width stage.now.system.equations + 1 }
     ensures { OnOk result (GainsSums stage.now.system.equations stage.now.listed (ids_of plus.now minus.now e) found.old found.new) }
 {
+    stage.keeps();
     for c in plus {
         let seconds = ids_of_norm(minus, e.saturating_sub(c.norm()));
-        take_class(stage, c.ids(), seconds, sum, found)?;
+        take_class(alloc, stage, c.ids(), seconds, sum, found)?;
     }
     Ok(())
 }

@@ -372,7 +372,15 @@ impl Stage {
         let width = self.system.width() + 1;
         let mut sum: Vec<i64> = vec![in alloc; 0; width as usize]?;
         let mut found = Found::new(alloc, width);
-        take_norm(self, &self.plus, &self.minus, norm, &mut sum, &mut found)?;
+        take_norm(
+            alloc,
+            self,
+            &self.plus,
+            &self.minus,
+            norm,
+            &mut sum,
+            &mut found,
+        )?;
         Ok(Closed {
             norm,
             rows: found.in_order(alloc)?,

@@ -1,9 +1,11 @@
-use Rattle.std.proofs.Common.{◌≡◌, ◌∙◌, sym, ap, subst, subst₂, get_or, take, ◌+◌, ◌-◌, []}
+use Rattle.std.proofs.Common.{◌≡◌, ◌∙◌, sym, ap, subst, subst₂, get_or, take, ◌+◌, ◌-◌, ◌<◌, length, arith, []}
 use Rattle.std.specs.Prelude.{ℕ, List, map}
 use Rattle.std.specs.List.{AllByRecursion, flat_map}
 use Rattle.stage_store.specs.Classes.{ClassValue, class_norm, ids_at, id_part, ids_of}
 use Rattle.stage_store.specs.Found.{IsPairPlace, GainsSums, place_pair}
 use Rattle.std.proofs.lemmas.List.{take_all}
+use Rattle.lift_core.specs.Stages.{has_negative_last}
+use Rattle.stage_store.proofs.Pairs.{ids_few, inside_at}
 use Rattle.stage_store.proofs.Classes.{class_at, class_ids}
 use Rattle.stage_store.proofs.Gains.{gains_more, each_part, flat_map_more, pair_places}
 use Rattle.stage_store.proofs.gathering.take_norm.Goals as goal
@@ -33,3 +35,9 @@ loop-c-preserved c =
 
 pub returns : goal.returns
 returns c = subst (λ (cs : List ClassValue). GainsSums c.args.stage.now.system.equations c.args.stage.now.listed (ids_of cs c.args.minus.now c.args.e) c.args.found.now c.loop-c.found) (take_all c.loop-c.c-index c.args.plus.now c.loop-c-test.false) c.loop-c.invariant.gains
+
+pub take_class-requires-clause-seconds : goal.take_class-requires-clause-seconds
+take_class-requires-clause-seconds c = subst (λ (js : List ℕ). AllByRecursion (λ i. i < length c.args.stage.now.listed) js) (sym c.ids_of_norm-seconds.ensures) (inside_at c.args.stage.now.listed c.args.minus.now c.saturating_sub.result c.requires.minus.each)
+
+pub take_class-requires-clause-few : goal.take_class-requires-clause-few
+take_class-requires-clause-few c = omega (arith, ap length c.ids_of_norm-seconds.ensures, ids_few c.args.stage.now.listed c.args.minus.now has_negative_last c.saturating_sub.result c.requires.minus, c.keeps.ensures.listed_length)
