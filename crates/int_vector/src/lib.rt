@@ -92,7 +92,8 @@ pub fn conformal(u: &[i64], v: &[i64]) -> bool
 fn are_opposite(x: i64, y: i64) -> bool
     ensures { IsTrue result ↔ ((x *ℤ y) <ℤ pos 0) }
 {
-    (x > 0 && y < 0) || (x < 0 && y > 0)
+    // the product always has room in 128 bits, and to ask its sign is a single branch
+    (x as i128 * y as i128) < 0
 }
 
 /// Writes the sum of two vectors, each entry of which is in range, into `out`.

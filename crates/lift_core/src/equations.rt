@@ -2,7 +2,7 @@
 
 ghost use Rattle.std.specs.Prelude.{◌≡◌, ◌↔◌, ◌+◌, ◌-◌, ◌*◌, ◌/◌, ◌%◌, ◌<◌, ◌≤◌, [], None, ℤ, pos, length, take, drop, IsTrue, IfOk, slice_index_or, All};
 ghost use Rattle.std.specs.List.{AllZip, AllByRecursion};
-ghost use Rattle.int_vector.specs.Vectors.{norm, dot};
+ghost use Rattle.int_vector.specs.Vectors.{norm, dot, add};
 ghost use Rattle.lift_core.specs.Systems.{width, row, HasSign, ObeysSigns, ObeysCaps, InRange, IsSign, IsToolSystem, HasRoomForHome, system_of};
 ghost use Rattle.lift_core.specs.Written.{home_of};
 
@@ -140,6 +140,27 @@ impl System {
     {
         match self.tool {
             Tool::Zsolve => v[self.signs.len() - 1].unsigned_abs() <= 1,
+            _ => true,
+        }
+    }
+
+    /// Whether the sum of two vectors obeys the caps.
+    ///
+    /// It takes no sum of vectors: only the last column can have a cap, so its two entries decide.
+    #[tactic(auto, using(crate::proofs::Caps::sum_no_caps, crate::proofs::Caps::sum_one_cap))]
+    pub fn sum_obeys_caps(&self, u: &[i64], v: &[i64]) -> bool
+        requires first { length u.now ≡ width self.now.equations }
+        requires second { length v.now ≡ width self.now.equations }
+        ensures { IsTrue result ↔ ObeysCaps self.now.equations (add u.now v.now) }
+    {
+        match self.tool {
+            Tool::Zsolve => {
+                let last = self.signs.len() - 1;
+                match u[last].checked_add(v[last]) {
+                    Some(sum) => sum.unsigned_abs() <= 1,
+                    None => false,
+                }
+            }
             _ => true,
         }
     }

@@ -1,11 +1,11 @@
 -- The sum of a pair.
 use Rattle.std.proofs.Common.{◌≡◌, ℕ, zero, suc, ◌+◌, ◌≤◌, ◌<◌, List, [], ◌∷◌, length, get_or, take, refl, ap, sym, ◌∙◌, arith, subst, subst₂, Bool, true, false}
-use Rattle.std.specs.Prelude.{IsTrue, ◌↔◌, ℤ, pos, ◌+ℤ◌, ◌<ℤ◌, nat_abs}
+use Rattle.std.specs.Prelude.{IsTrue, ℤ, pos, ◌+ℤ◌, ◌<ℤ◌, nat_abs}
 use Rattle.std.specs.List.{AllZip}
 use Rattle.int_vector.specs.Vectors.{AreConformal}
 use Rattle.lift_core.specs.Systems.{LinearSystem, ObeysCaps}
 use Rattle.lift_core.specs.Stages.{HasSum, IsPair}
-use Rattle.lift_core.proofs.Stages.{front-take, last-get_or}
+use Rattle.lift_core.proofs.Stages.{front-take, front-add, last-get_or}
 use Rattle.std.proofs.lemmas.Int.{ints}
 use Rattle.int_vector.specs.Vectors.{norm, add}
 use Rattle.lift_core.specs.Stages.{front, last, stage_norm}
@@ -50,13 +50,20 @@ has_no_sum S u v f g w b p q m n e h sum =
     let k : HasSum S u v = subst₂ (λ (x y : List ℤ). HasSum S x y) (sym p) (sym q) sum in
     not_true b e (h (subst₂ (λ (x y : List ℤ). AreConformal x y) (front-take u w m) (front-take v w n) k.conformal))
 
-pub has_sum : (S T : LinearSystem) (u v f g out : List ℤ) (w : ℕ) (a b : Bool) → S ≡ T → u ≡ f → v ≡ g → length u ≡ w + 1 → length v ≡ w + 1 → a ≡ true → (IsTrue a → AreConformal (take w u) (take w v)) → out ≡ add u v → (IsTrue b ↔ ObeysCaps S (take w out)) → IsTrue b ↔ HasSum T f g
-has_sum S T u v f g out w a b s p q m n e h is caps =
-    let l : length (add u v) ≡ w + 1 = length-add u v (m ∙ sym n) ∙ m in
-    let o : take w out ≡ front (add u v) = ap (take w) is ∙ sym (front-take (add u v) w l) in
-    let c : AreConformal (front u) (front v) = subst₂ (λ (x y : List ℤ). AreConformal x y) (sym (front-take u w m)) (sym (front-take v w n)) (h e) in
-    subst (λ (t : LinearSystem). IsTrue b ↔ HasSum t f g) s (subst₂ (λ (x y : List ℤ). IsTrue b ↔ HasSum S x y) p q
-    (λ t. record { conformal = c; caps = subst (λ (x : List ℤ). ObeysCaps S x) o (caps.0 t) }, λ k. caps.1 (subst (λ (x : List ℤ). ObeysCaps S x) (sym o) k.caps)))
+-- the sum of the fronts is the front of the sum
+front_sum : (u v : List ℤ) (w : ℕ) → length u ≡ w + 1 → length v ≡ w + 1 → front (add u v) ≡ add (take w u) (take w v)
+front_sum u v w m n = front-add u v (m ∙ sym n) ∙ subst₂ (λ (x y : List ℤ). add x y ≡ add (take w u) (take w v)) (sym (front-take u w m)) (sym (front-take v w n)) refl
+
+pub no_sum_by_caps : (S T : LinearSystem) (u v f g : List ℤ) (w : ℕ) (b : Bool) → S ≡ T → u ≡ f → v ≡ g → length u ≡ w + 1 → length v ≡ w + 1 → b ≡ false → (ObeysCaps S (add (take w u) (take w v)) → IsTrue b) → HasSum T f g → ⊥
+no_sum_by_caps S T u v f g w b s p q m n e h sum =
+    let k : HasSum T u v = subst₂ (λ (x y : List ℤ). HasSum T x y) (sym p) (sym q) sum in
+    not_true b e (h (subst₂ (λ (t : LinearSystem) (x : List ℤ). ObeysCaps t x) (sym s) (front_sum u v w m n) k.caps))
+
+pub has_sum : (S T : LinearSystem) (u v f g : List ℤ) (w : ℕ) (a b : Bool) → S ≡ T → u ≡ f → v ≡ g → length u ≡ w + 1 → length v ≡ w + 1 → a ≡ true → (IsTrue a → AreConformal (take w u) (take w v)) → b ≡ true → (IsTrue b → ObeysCaps S (add (take w u) (take w v))) → HasSum T f g
+has_sum S T u v f g w a b s p q m n e conformal r caps =
+    let c : AreConformal (front u) (front v) = subst₂ (λ (x y : List ℤ). AreConformal x y) (sym (front-take u w m)) (sym (front-take v w n)) (conformal e) in
+    let d : ObeysCaps T (front (add u v)) = subst₂ (λ (t : LinearSystem) (x : List ℤ). ObeysCaps t x) s (sym (front_sum u v w m n)) (caps r) in
+    subst₂ (λ (x y : List ℤ). HasSum T x y) p q (record { conformal = c; caps = d })
 
 -- a pair's sums fit, by its rows in a list
 pub pair_fits : (listed : List (List ℤ)) (u v f g : List ℤ) (w : ℕ) → u ≡ f → v ≡ g → length u ≡ w + 1 → length v ≡ w + 1 → IsPair listed f g → stage_norm f + stage_norm g ≤ largest → nat_abs (get_or u w (pos 0)) ≤ largest → nat_abs (get_or v w (pos 0)) ≤ largest → AllZip SumFits u v

@@ -353,14 +353,18 @@ impl Stage {
         ensures is { IsTrue result → out.new ≡ add (slice_index_or self.now.listed f.0 []) (slice_index_or self.now.listed g.0 []) }
         ensures range { IsTrue result → All InRange out.new }
     {
-        let width = self.system.width() as usize;
+        let system = &self.system;
+        let width = system.width() as usize;
         let first = self.listed.row(f);
         let second = self.listed.row(g);
+        if !system.sum_obeys_caps(&first[..width], &second[..width]) {
+            return false;
+        }
         if !conformal(&first[..width], &second[..width]) {
             return false;
         }
         add_into(first, second, out);
-        self.system.obeys_caps(&out[..width])
+        true
     }
 
     /// The irreducible sums of the next norm.
