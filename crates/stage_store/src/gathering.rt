@@ -1,6 +1,6 @@
 //! The irreducible sums of a norm: a walk through its pairs, class by class, and the sums found on the way in order.
 
-ghost use Rattle.std.specs.Prelude.{◌≡◌, ◌+◌, ◌<◌, ◌≤◌, ◌^◌, ℕ, List, [], ◌∷◌, length, map, slice_index_or, MatchOption, IfOk, OnOk, All};
+ghost use Rattle.std.specs.Prelude.{◌≡◌, ◌+◌, ◌<◌, ◌≤◌, ◌^◌, ℕ, List, [], ◌∷◌, length, map, slice_index_or, IsTrue, MatchOption, IfSome, IfOk, OnOk, All};
 ghost use Rattle.std.specs.List.{AllByRecursion, Contains, flat_map, insert};
 ghost use Rattle.lift_core.specs.Systems.{width};
 ghost use Rattle.std.specs.List.Sorted.{IsStrictlySortedBy};
@@ -8,22 +8,24 @@ ghost use Rattle.lift_core.specs.Stages.{lex_cmp, has_positive_last, has_negativ
 ghost use Rattle.row_pool.specs.Rows.{InRange};
 ghost use Rattle.stage_store.specs.Clashes.{HasLines, TellsOf};
 ghost use Rattle.stage_store.specs.Classes.{AreClasses, ids_of, rows_at};
-ghost use Rattle.stage_store.specs.Found.{FoundValue, ComesAt, IsPairPlace, GainsSums, HaveNoSums, place_pair};
+ghost use Rattle.stage_store.specs.Found.{FoundValue, ComesAt, IsPairPlace, IsReduced, GainsSums, HaveNoSums, place_pair};
 
 use crate::clashes::Clashes;
 use crate::class::{Class, ids_of_norm};
 use crate::stage::Stage;
-use int_vector::{Visits, lex};
+use int_vector::{Visits, below, lex};
 use row_pool::{Pool, RowId};
 use std::alloc::{AllocError, Global};
 use std::cmp::Ordering;
 use std::marker::Model;
 
-/// The sums found so far, each once, with their places in lexicographic order.
+/// The sums found so far, each once, with their places in lexicographic order. Besides, the places of the listed rows
+/// that the last reducible sums were above, the likeliest first: sums that come one after another often share one.
 #[derive(Drop)]
 pub struct Found {
     rows: Pool,
     order: Vec<u32>,
+    reducers: [u32; 4],
 }
 
 impl Model for Found {
@@ -46,7 +48,30 @@ impl Found {
         Found {
             rows: Pool::new(alloc, width),
             order: Vec::new(alloc),
+            reducers: [0; 4],
         }
+    }
+
+    /// Whether a row that is known as a reducer is below a sum. It comes nearer to the front.
+    fn is_reduced_again(&mut self, stage: &Stage, sum: &[i64]) -> bool
+        requires { length sum.now ≡ width stage.now.system.equations + 1 }
+        ensures same { self.new ≡ self.old }
+        ensures reduced { IsTrue result → IsReduced stage.now.listed sum.now }
+    {
+        match place_below(&self.reducers, stage, sum) {
+            Some(k) => {
+                self.reducers.swap(k.saturating_sub(1), k);
+                true
+            }
+            None => false,
+        }
+    }
+
+    /// Keeps a reducer in mind, in place of the unlikeliest.
+    fn remember(&mut self, id: RowId)
+        ensures { self.new ≡ self.old }
+    {
+        self.reducers[3] = id.0;
     }
 
     /// Where a row comes that was not found.
@@ -98,6 +123,20 @@ impl Found {
     }
 }
 
+/// Which of some places has a listed row that is below a sum.
+fn place_below(places: &[u32], stage: &Stage, sum: &[i64]) -> Option<usize>
+    requires { length sum.now ≡ width stage.now.system.equations + 1 }
+    ensures inside { IfSome result (λ k. k < length places.now) }
+    ensures reduced { IfSome result (λ _. IsReduced stage.now.listed sum.now) }
+{
+    for k in 0..places.len() {
+        if places[k] < stage.len() && below(stage.row(RowId(places[k])), sum) {
+            return Some(k);
+        }
+    }
+    None
+}
+
 /// Takes in the sum of a pair, where it has one that is irreducible. `sum` is room for it.
 fn take_sum(
     stage: &Stage,
@@ -115,13 +154,16 @@ fn take_sum(
     if !stage.sum_into(RowId(f), RowId(g), sum) {
         return Ok(());
     }
-    // A sum that was found is not searched again.
-    let Some(place) = found.place_of(sum) else {
+    if found.is_reduced_again(stage, sum) {
         return Ok(());
-    };
-    match stage.find_below(sum, &mut Visits { count: 0 }) {
-        None => found.insert(place, sum),
-        Some(_) => Ok(()),
+    }
+    if let Some(id) = stage.find_below(sum, &mut Visits { count: 0 }) {
+        found.remember(id);
+        return Ok(());
+    }
+    match found.place_of(sum) {
+        None => Ok(()),
+        Some(place) => found.insert(place, sum),
     }
 }
 
