@@ -187,7 +187,11 @@ fn few_rows_are_compared(rt: HostRuntime) -> Result<(), Fail> {
     let rows = all_with_zero(alloc, &finish.rows)?;
     assert_eq!(rt; rows.len(), 330);
     let count = compared(&rt, &tree_of(alloc, &rows)?, &rows);
-    // 330 searches that compare each of 330 rows compare 108,900 in all. 10,890 is a tenth of that.
-    assert!(rt; 0 < count && count <= 10_890, "{count} rows were compared");
+    // A look at every row would compare 108,900 in all, one that stops at the row that it finds 54,615, and the tree
+    // without its signatures 5,720.
+    assert!(rt;
+        330 <= count && count <= 1_000,
+        "{count} rows were compared"
+    );
     Ok(())
 }

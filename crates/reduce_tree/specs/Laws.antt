@@ -1,8 +1,15 @@
--- Laws on pools that a tree fits.
+-- Laws on signatures, and on pools that a tree fits.
 use Rattle.std.specs.Prelude.{◌≡◌, ℕ, ◌<◌, List, ◌++◌, ℤ, take}
 use Rattle.std.specs.List.{AllByRecursion}
+use Rattle.int_vector.specs.Vectors.{◌⊑◌}
 use Rattle.row_pool.specs.Rows.{PoolValue}
+use Rattle.reduce_tree.specs.Bits.{IsPartOf}
+use Rattle.reduce_tree.specs.Signatures.{signature_of}
 use Rattle.reduce_tree.specs.Tree.{TreeValue, Fits, places_of}
+
+-- the signature of a row below another is part of the other's
+abbrev pub SignaturesArePart : Type 0
+SignaturesArePart = (levels : ℕ) (u v : List ℤ) → u ⊑ v → IsPartOf (signature_of levels u) (signature_of levels v)
 
 -- a tree that fits a pool fits it with more rows
 abbrev pub FitsGrown : Type 0
