@@ -116,7 +116,7 @@ same-int_eq : (x y : ℤ) → x ≡ y → int_eq x y ≡ true
 same-int_eq x y = (Decides-int_eq x y).1
 
 -- the fronts of stage vectors in order are in order
-fronts_before : (S : LinearSystem) (k : ℕ) (z y : List ℤ) → IsStageVector S k z → IsStageVector S k y → norm_cmp z y ≡ Less → solution_cmp (front z) (front y) ≡ Less
+pub fronts_before : (S : LinearSystem) (k : ℕ) (z y : List ℤ) → IsStageVector S k z → IsStageVector S k y → norm_cmp z y ≡ Less → solution_cmp (front z) (front y) ≡ Less
 fronts_before S k z y p q e =
     let same_length : length (front z) ≡ length (front y) = ap length (stage_front S k z p) ∙ solution_length S (k - 1) p.part p.member ∙ sym (solution_length S (k - 1) q.part q.member) ∙ ap length (sym (stage_front S k y q)) in
     elim (solution_cmp (front z) (front y)) as (λ o. solution_cmp (front z) (front y) ≡ o → solution_cmp (front z) (front y) ≡ Less) [

@@ -18,7 +18,7 @@ zeros_below : (v : List ℤ) → replicate (length v) (pos 0) ⊑ v
 zeros_below [] = tt
 zeros_below (x ∷ v) = (within_from_parts (pos 0) x (omega arith), zeros_below v)
 
-norm-unit : (n j : ℕ) (a : ℤ) → j < n → norm (unit n j a) ≡ nat_abs a
+pub norm-unit : (n j : ℕ) (a : ℤ) → j < n → norm (unit n j a) ≡ nat_abs a
 norm-unit zero j a h = absurd (omega arith)
 norm-unit (suc n) zero a h = omega (arith, norm-zeros n)
 norm-unit (suc n) (suc j) a h = omega (arith, norm-unit n j a (omega arith))

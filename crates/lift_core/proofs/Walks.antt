@@ -12,7 +12,7 @@ use Rattle.lift_core.proofs.Places.{grown_listed, still_waits, used_next, all_us
 use Rattle.lift_core.proofs.Grown.{grown_exists}
 
 -- ---- the pairs of the stages before the next stage
-pairs_before_next : (S : LinearSystem) (k : ℕ) → 0 < k → (rows : List (List ℤ)) → IsStageList S k rows → (m n : ℕ) → ArePairsBefore S k m → n ≡ m + all_pairs rows → ArePairsBefore S (k + 1) n
+pub pairs_before_next : (S : LinearSystem) (k : ℕ) → 0 < k → (rows : List (List ℤ)) → IsStageList S k rows → (m n : ℕ) → ArePairsBefore S k m → n ≡ m + all_pairs rows → ArePairsBefore S (k + 1) n
 pairs_before_next S zero h rows l m n b e = absurd (omega arith)
 pairs_before_next S (suc j) h rows l m n b e = let f : suc j + 1 ≡ suc (suc j) = omega arith in subst (λ i. ArePairsBefore S i n) (sym f) (rows, m, l, b, e)
 

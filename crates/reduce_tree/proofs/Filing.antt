@@ -1,36 +1,10 @@
 -- Items: the first one of a row, and that a row below another has the sign of its last entry and its first item, or has none.
-use Rattle.std.proofs.Common.{◌≡◌, ℕ, zero, suc, ◌+◌, ◌-◌, ◌*◌, ◌≤◌, ◌<◌, ◌⊎◌, ◌≢◌, List, [], ◌∷◌, length, drop, get_or, refl, ap, ◌∙◌, subst, arith, inl, inr}
+use Rattle.std.proofs.Common.{◌≡◌, ℕ, zero, suc, ◌+◌, ◌-◌, ◌*◌, ◌<◌, ◌⊎◌, ◌≢◌, List, [], ◌∷◌, length, get_or, refl, ap, ◌∙◌, subst, arith, inl, inr}
 use Rattle.std.specs.Prelude.{ℤ, pos, negsuc, nat_abs}
 use Rattle.std.proofs.lemmas.Int.{ints}
 use Rattle.int_vector.specs.Vectors.{IsWithin, ◌⊑◌}
 use Rattle.reduce_tree.specs.Items.{item_at, first_item_from, part_at, part_of}
 use Rattle.reduce_tree.proofs.Signatures.{not_against, not_against_below}
-
--- ---- the first item
-pub first_item_found : (column j : ℕ) (row : List ℤ) → j < length row → get_or row j (pos 0) ≢ pos 0 → first_item_from column (drop j row) ≡ item_at column (get_or row j (pos 0))
-first_item_found column j [] h d = absurd (omega arith)
-first_item_found column zero (pos zero ∷ row) h d = absurd (d refl)
-first_item_found column zero (pos (suc n) ∷ row) h d = refl
-first_item_found column zero (negsuc n ∷ row) h d = refl
-first_item_found column (suc j) (x ∷ row) h d = first_item_found column j row (omega arith) d
-
-pub first_item_later : (column j : ℕ) (row : List ℤ) → j < length row → get_or row j (pos 0) ≡ pos 0 → first_item_from column (drop j row) ≡ first_item_from (column + 1) (drop (j + 1) row)
-first_item_later column j [] h e = absurd (omega arith)
-first_item_later column zero (x ∷ row) h e =
-    let one : suc column ≡ column + 1 = omega arith in
-    ap (λ y. first_item_from column (y ∷ row)) e ∙ ap (λ c. first_item_from c row) one
-first_item_later column (suc j) (x ∷ row) h e =
-    let one : suc (j + 1) ≡ suc j + 1 = omega arith in
-    first_item_later column j row (omega arith) e ∙ ap (λ n. first_item_from (column + 1) (drop n (x ∷ row))) one
-
-pub first_item_none : (j : ℕ) (row : List ℤ) → length row ≤ j → first_item_from j (drop j row) ≡ 2 * j
-first_item_none j row h = ap (λ r. first_item_from j r) (nothing j row h)
-  where
-    nothing : (k : ℕ) (r : List ℤ) → length r ≤ k → drop k r ≡ []
-    nothing zero [] l = refl
-    nothing (suc k) [] l = refl
-    nothing zero (x ∷ r) l = absurd (omega arith)
-    nothing (suc k) (x ∷ r) l = nothing k r (omega arith)
 
 -- ---- rows below another
 -- the item of the first entry, or none, is an item of what stands above

@@ -6,10 +6,9 @@ use Rattle.std.proofs.lemmas.Bool.{cases_eq, eq-eqb, ne_eqb}
 use Rattle.std.proofs.lemmas.List.{get_or_default, get_or-set_same, get_or-set_other, set-get_or, length-set, length-map, map-append, get_or-replicate}
 use Rattle.std.proofs.lemmas.List.Elements.{filter-append}
 use Rattle.std.proofs.Math.Seq.{take-append_seam}
-use Rattle.row_pool.specs.Rows.{PoolValue}
 use Rattle.reduce_tree.specs.declared.tree.Filed.{Filed}
 use Rattle.reduce_tree.specs.Buckets.{BucketValue, empty_bucket}
-use Rattle.reduce_tree.specs.Tree.{TreeValue, place_of, bits_of, StandsAt, Fits, in_bucket, content, IsTree}
+use Rattle.reduce_tree.specs.Tree.{place_of, bits_of, in_bucket, content, IsTree}
 use Rattle.reduce_tree.proofs.Trees.{none_without_buckets}
 
 bucket_same : (b d : BucketValue) → b.places ≡ d.places → b.bits ≡ d.bits → b ≡ d
@@ -28,9 +27,6 @@ all_last P [] f h = h.0
 all_last P (g ∷ fs) f h = all_last P fs f h.1
 
 -- ---- the buckets are made
-content_none : (b : ℕ) → content b [] ≡ empty_bucket
-content_none b = refl
-
 pub tree_made : (width levels count : ℕ) (filed : List Filed) (old new : List BucketValue) → IsTree width levels filed old → count ≡ 3 * (2 * width + 1)
     → (new ≡ old) ⊎ ((length old ≡ 0) × (new ≡ replicate count empty_bucket)) → IsTree width levels filed new
 tree_made width levels count filed old new h n (inl e) = subst (λ b. IsTree width levels filed b) (sym e) h
@@ -143,27 +139,6 @@ bucket_some width levels fs f buckets old h e =
     let was : old ≡ record { places = (content f.bucket fs).places ++ f.place ∷ []; bits = (content f.bucket fs).bits ++ f.bits ∷ [] } =
     e ∙ get_or_default buckets f.bucket old empty_bucket inside ∙ h.contents f.bucket inside ∙ content_more f.bucket fs f refl in
     omega (arith, ap (λ (v : BucketValue). length v.places) was, length-append (content f.bucket fs).places (f.place ∷ []))
-
-pub last_inside : (width levels : ℕ) (fs : List Filed) (f : Filed) (buckets : List BucketValue) → IsTree width levels (fs ++ f ∷ []) buckets → f.bucket < length buckets
-last_inside width levels fs f buckets h = all_last (λ g. g.bucket < length buckets) fs f h.inside
-
--- ---- pools that the tree fits
-pub fits_more : (t new : TreeValue) (f : Filed) (pool : PoolValue) → Fits t pool → StandsAt t.levels pool.rows f → new.width ≡ t.width → new.levels ≡ t.levels → new.filed ≡ t.filed ++ f ∷ [] → Fits new pool
-fits_more t new f pool h s w l e = record {
-  width = h.width ∙ sym w;
-  rows = subst (λ m. AllByRecursion (StandsAt m pool.rows) new.filed) (sym l) (subst (λ (fs : List Filed). AllByRecursion (StandsAt t.levels pool.rows) fs) (sym e) (all_append (StandsAt t.levels pool.rows) t.filed f h.rows s));
-}
-
-all_take : (P : Filed → Type 0) (n : ℕ) (fs : List Filed) → AllByRecursion P fs → AllByRecursion P (take n fs)
-all_take P zero fs h = tt
-all_take P (suc n) [] h = tt
-all_take P (suc n) (f ∷ fs) h = (h.0, all_take P n fs h.1)
-
-pub fits_less : (t new : TreeValue) (n : ℕ) → new.width ≡ t.width → new.levels ≡ t.levels → new.filed ≡ take n t.filed → (pool : PoolValue) → Fits t pool → Fits new pool
-fits_less t new n w l e pool h = record {
-  width = h.width ∙ sym w;
-  rows = subst (λ m. AllByRecursion (StandsAt m pool.rows) new.filed) (sym l) (subst (λ (fs : List Filed). AllByRecursion (StandsAt t.levels pool.rows) fs) (sym e) (all_take (StandsAt t.levels pool.rows) n t.filed h.rows));
-}
 
 -- ---- some less, one after another
 pub cut_once : (fs old : List Filed) (f : Filed) → fs ++ f ∷ [] ≡ take (length (fs ++ f ∷ [])) old → fs ≡ take (length fs) old

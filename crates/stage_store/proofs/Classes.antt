@@ -1,5 +1,5 @@
 -- Classes in order of norm.
-use Rattle.std.proofs.Common.{◌≡◌, ℕ, zero, suc, ◌≤◌, ◌<◌, List, [], ◌∷◌, ◌++◌, length, get_or, refl, ap, ◌∙◌, subst, arith, inl, inr, Less, Equal, Greater, true, cond}
+use Rattle.std.proofs.Common.{◌≡◌, ℕ, zero, suc, ◌≤◌, ◌<◌, List, [], ◌∷◌, ◌++◌, length, get_or, refl, ap, ◌∙◌, subst, arith, inl, inr, Less, Equal, Greater, true}
 use Rattle.std.specs.Prelude.{◌==◌}
 use Rattle.std.specs.List.{AllByRecursion}
 use Rattle.std.specs.List.Sorted.{IsStrictlySortedBy}
@@ -38,10 +38,6 @@ sorted_at (c ∷ cs) i zero s h l = absurd (omega arith)
 sorted_at (c ∷ cs) zero (suc j) s h l = less_norm c.norm (norm_at cs j) (each_at (λ z. class_cmp c z ≡ Less) cs j (record { norm = 0; ids = [] }) s.0 (omega arith))
 sorted_at (c ∷ cs) (suc i) (suc j) s h l = sorted_at cs i j s.1 (omega arith) (omega arith)
 
-ids_at-cons : (c : ClassValue) (cs : List ClassValue) (n : ℕ) → ids_at (c ∷ cs) n ≡ cond (c.norm == n) c.ids [] ++ ids_at cs n
-ids_at-cons c cs n = refl
-
--- no class of this norm
 pub ids_at-none : (cs : List ClassValue) (n : ℕ) → ((k : ℕ) → k < length cs → norm_at cs k ≡ n → ⊥) → ids_at cs n ≡ []
 ids_at-none [] n h = refl
 ids_at-none (c ∷ cs) n h = elim (cases_Bool (c.norm == n)) [

@@ -147,10 +147,6 @@ first_waits (z ∷ waiting) d s h some = record {
   ];
 }
 
-pub none_waits : (waiting : List (List ℤ)) (d : ℕ) → length waiting ≡ 0 → IsLeastAbove (HasWaitingNorm waiting) d None
-none_waits [] d e = λ n l w. contains_nothing w.0 w.1.waits
-none_waits (z ∷ waiting) d e = absurd (omega arith)
-
 some_norm : (r : Option ℕ) (n : ℕ) → MatchOption r (largest < n) (λ m. (m ≡ n) × (m ≤ largest)) → n ≤ largest → r ≡ Some n
 some_norm None n h l = absurd (omega (arith, h, l))
 some_norm (Some m) n h l = ap Some h.0

@@ -1,24 +1,24 @@
 -- The rows that a stage begins with, one by one: the solutions of a finished stage, and solutions with their products.
-use Rattle.std.proofs.Common.{◌≡◌, ℕ, ◌+◌, ◌-◌, ◌^◌, ◌≤◌, ◌<◌, List, [], ◌∷◌, ◌++◌, length, get_or, take, drop, refl, ap, ap₂, sym, ◌∙◌, subst, subst₂, arith, inl, inr, Bool, true, false, cond, Less, Equal, Greater}
+use Rattle.std.proofs.Common.{◌≡◌, ℕ, ◌+◌, ◌^◌, ◌≤◌, ◌<◌, List, [], ◌∷◌, ◌++◌, length, get_or, take, drop, refl, ap, ap₂, sym, ◌∙◌, subst, arith, inl, inr, Bool, true, false, cond}
 use Rattle.std.specs.Prelude.{ℤ, pos, map, Some, None, nat_abs}
 use Rattle.std.specs.List.{Contains, AllByRecursion, filter, find}
 use Rattle.std.specs.List.Sorted.{IsStrictlySortedBy}
-use Rattle.std.specs.Ordering.{int_eq, ordering_reverse}
+use Rattle.std.specs.Ordering.{int_eq}
 use Rattle.std.proofs.lemmas.Bool.{cases_Bool, lt-ltb, le-ltb}
 use Rattle.std.proofs.lemmas.Bool.Decides.{Decides-int_eq}
 use Rattle.std.proofs.lemmas.List.{take_more, take_all, drop_more, map_more, length-map, map-append, take-append-drop}
 use Rattle.std.proofs.lemmas.List.Elements.{filter-append}
 use Rattle.std.proofs.lemmas.List.Kept.{IsStrictlySortedBy-filter}
 use Rattle.int_vector.specs.Vectors.{norm, dot}
-use Rattle.lift_core.specs.Systems.{LinearSystem, row, Solves}
+use Rattle.lift_core.specs.Systems.{row, Solves}
 use Rattle.lift_core.specs.Extended.{extend}
 use Rattle.lift_core.specs.Stages.{front, last, norm_cmp, IsStageVector}
 use Rattle.lift_core.specs.Ends.{solution_cmp, solutions_in, leaves_range, largest}
-use Rattle.lift_core.proofs.Lists.{each_from_contained, each_contained, not_before_itself, not_both_before}
+use Rattle.lift_core.proofs.Lists.{each_from_contained, each_contained}
 use Rattle.lift_core.proofs.Stages.{front-take, last-push}
-use Rattle.lift_core.proofs.Systems.{solution_length}
-use Rattle.lift_core.proofs.Growth.{stage_front, stage_same}
-use Rattle.lift_core.proofs.Orders.{norm_cmp_total, solution_cmp_total, solution_same, before_pushed, from_filter, from_map, map_ascending}
+use Rattle.lift_core.proofs.Growth.{stage_front}
+use Rattle.lift_core.proofs.Places.{fronts_before}
+use Rattle.lift_core.proofs.Orders.{from_filter, from_map, map_ascending}
 use Rattle.lift_core.proofs.Composition.{solves_next}
 use Rattle.stage_store.specs.Stage.{StageValue, IsStage, IsStageRow}
 
@@ -70,32 +70,11 @@ fit_not r rows v i l is e large =
     let split : rows ≡ take i rows ++ (v ∷ drop (i + 1) rows) = sym (take-append-drop i rows) ∙ ap (λ (d : List (List ℤ)). take i rows ++ d) (drop_more rows i [] l ∙ ap (λ (x : List ℤ). x ∷ drop (i + 1) rows) (sym is)) in
     ap (find (leaves_range r)) split ∙ find_first (leaves_range r) (take i rows) (drop (i + 1) rows) v e (lt-ltb largest (nat_abs (dot r v)) large)
 
-pub fit_all : (r : List ℤ) (rows : List (List ℤ)) (i : ℕ) → length rows ≤ i → find (leaves_range r) (take i rows) ≡ None → find (leaves_range r) rows ≡ None
-fit_all r rows i l e = ap (find (leaves_range r)) (sym (take_all i rows l)) ∙ e
-
 pub extended_more : (r : List ℤ) (rows waiting new : List (List ℤ)) (v cells : List ℤ) (t : ℤ) (i : ℕ) → i < length rows → v ≡ get_or rows i [] → waiting ≡ map (extend r) (take i rows) → t ≡ dot r v → cells ≡ v ++ (t ∷ []) → new ≡ waiting ++ (cells ∷ []) → new ≡ map (extend r) (take (i + 1) rows)
 extended_more r rows waiting new v cells t i l is so_far t_is c_is pushed =
     pushed ∙ ap₂ (λ (w : List (List ℤ)) (z : List ℤ). w ++ (z ∷ [])) so_far (c_is ∙ ap (λ (x : ℤ). v ++ (x ∷ [])) t_is ∙ ap (extend r) is) ∙ sym (map_more (extend r) rows i [] l)
 
-pub extended_all : (r : List ℤ) (rows waiting : List (List ℤ)) (i : ℕ) → length rows ≤ i → waiting ≡ map (extend r) (take i rows) → waiting ≡ map (extend r) rows
-extended_all r rows waiting i l e = e ∙ ap (map (extend r)) (take_all i rows l)
-
 -- ---- the solutions of a finished stage
-fronts_before : (S : LinearSystem) (k : ℕ) (z y : List ℤ) → IsStageVector S k z → IsStageVector S k y → norm_cmp z y ≡ Less → solution_cmp (front z) (front y) ≡ Less
-fronts_before S k z y p q e =
-    let same_length : length (front z) ≡ length (front y) = ap length (stage_front S k z p) ∙ solution_length S (k - 1) p.part p.member ∙ sym (solution_length S (k - 1) q.part q.member) ∙ ap length (sym (stage_front S k y q)) in
-    elim (solution_cmp (front z) (front y)) as (λ o. solution_cmp (front z) (front y) ≡ o → solution_cmp (front z) (front y) ≡ Less) [
-      | Less ↦ λ f. f
-      | Equal ↦ λ f.
-          let s : z ≡ y = stage_same S k z y p q (solution_same (front z) (front y) f) in
-          absurd (not_before_itself norm_cmp norm_cmp_total y (subst (λ w. norm_cmp w y ≡ Less) s e))
-      | Greater ↦ λ f.
-          let g : solution_cmp (front y) (front z) ≡ Less = solution_cmp_total.antisymm (front y) (front z) ∙ ap ordering_reverse f in
-          let h : norm_cmp (front y ++ (dot (row S k) q.part ∷ [])) (front z ++ (dot (row S k) p.part ∷ [])) ≡ Less = before_pushed (front y) (front z) (dot (row S k) q.part) (dot (row S k) p.part) (sym same_length) g in
-          let yz : norm_cmp y z ≡ Less = subst₂ (λ (a b : List ℤ). norm_cmp a b ≡ Less) (ap (λ w. w ++ (dot (row S k) q.part ∷ [])) (stage_front S k y q) ∙ sym q.is) (ap (λ w. w ++ (dot (row S k) p.part ∷ [])) (stage_front S k z p) ∙ sym p.is) h in
-          absurd (not_both_before norm_cmp norm_cmp_total z y e yz)
-    ] refl
-
 module _ (s : StageValue) (h : IsStage s) where
   kept_from : (v : List ℤ) → Contains (solutions_in s.listed) v → (z : List ℤ) × IsStageRow s.system.equations s.number z × (last z ≡ pos 0) × (v ≡ front z)
   kept_from v c =

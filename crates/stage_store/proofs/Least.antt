@@ -37,9 +37,6 @@ norm_found cs d place s p l = record {
   ];
 }
 
-pub norm_missing : (cs : List ClassValue) (d place : ℕ) → IsPlaceFrom cs (d + 1) place → length cs ≤ place → IsLeastAbove (HasNorm cs) d None
-norm_missing cs d place p l = λ n m h. omega (arith, p.before h.place (omega (arith, h.inside, l)), h.norm_is, m)
-
 -- the norms of pairs whose first is the class at place i
 pub record HasNormWith (plus minus : List ClassValue) (i n : ℕ) : Type 0 where
   pub two : ℕ
@@ -55,9 +52,6 @@ with_class plus minus d i small m h = record {
 
 pub without_class : (plus minus : List ClassValue) (d i : ℕ) → norm_at plus i ≤ d → IsLeastAbove (HasNorm minus) (d - norm_at plus i) None → IsLeastAbove (HasNormWith plus minus i) d None
 without_class plus minus d i small h = λ n l k. h (norm_at minus k.two) (omega (arith, k.norm_is, l, small)) (record { place = k.two; inside = k.inside_two; norm_is = refl })
-
-pub no_pairs : (plus minus : List ClassValue) (d : ℕ) → IsLeastAbove (HasPairNorm plus minus 0) d None
-no_pairs plus minus d = λ n l h. omega (arith, h.before)
 
 -- one class more
 pub one_more : (plus minus : List ClassValue) (d i : ℕ) (x y : Option ℕ) → i < length plus → IsLeastAbove (HasPairNorm plus minus i) d x → IsLeastAbove (HasNormWith plus minus i) d y → IsLeastAbove (HasPairNorm plus minus (i + 1)) d (lesser_lem x y)

@@ -1,10 +1,10 @@
 -- The stage after a norm is closed: it is a stage, with the classes of its rows, and it is what `publish` promises.
-use Rattle.std.proofs.Common.{◌≡◌, ℕ, ◌+◌, ◌^◌, ◌≤◌, ◌<◌, List, [], ◌∷◌, ◌++◌, length, get_or, take, drop, refl, ap, ap₂, sym, ◌∙◌, subst, subst₂, arith, inl, inr, Bool, true, false, not, eqb, length-append, length-drop}
+use Rattle.std.proofs.Common.{◌≡◌, ℕ, ◌+◌, ◌^◌, ◌≤◌, ◌<◌, List, [], ◌∷◌, ◌++◌, length, get_or, drop, refl, ap, ap₂, sym, ◌∙◌, subst, subst₂, arith, inl, inr, Bool, true, false, not, eqb, length-append, length-drop}
 use Rattle.std.specs.Prelude.{ℤ}
 use Rattle.std.specs.List.{Contains, AllByRecursion, filter}
 use Rattle.std.proofs.lemmas.Bool.{cases_Bool, eqb-false, eq-eqb, not-true}
-use Rattle.std.proofs.lemmas.List.{drop-drop, take-append-drop}
-use Rattle.std.proofs.lemmas.List.Elements.{Contains-append_right, Contains-append_cases}
+use Rattle.std.proofs.lemmas.List.{drop-drop}
+use Rattle.std.proofs.lemmas.List.Elements.{Contains-append_cases}
 use Rattle.lift_core.specs.Systems.{LinearSystem, ToolSystem}
 use Rattle.lift_core.specs.Stages.{stage_norm, has_positive_last, has_negative_last, pairs_within, IsNextNorm, IsListed, IsWaiting, AreUsed}
 use Rattle.lift_core.specs.Ends.{still_waiting, used_up_to, largest}
@@ -25,9 +25,6 @@ use Rattle.stage_store.proofs.Closing.{after, next_stage}
 use Rattle.stage_store.proofs.Front.{ascends_drop, waits_at_least}
 use Rattle.stage_store.proofs.Used.{used_to_next, pairs_to_next, pairs_after}
 use Rattle.stage_store.proofs.Numbering.{numbered}
-
-in_drop : (n : ℕ) (xs : List (List ℤ)) (z : List ℤ) → Contains (drop n xs) z → Contains xs z
-in_drop n xs z c = subst (λ (l : List (List ℤ)). Contains l z) (take-append-drop n xs) (Contains-append_right (take n xs) (drop n xs) z c)
 
 -- the classes are of norms below e
 class_below : (listed : List (List ℤ)) (test : List ℤ → Bool) (cs : List ClassValue) (d e : ℕ) → d < e → AreClasses listed test cs → AllByRecursion (λ z. stage_norm z ≤ d) listed → (b : ClassValue) → Contains cs b → b.norm < e

@@ -1,11 +1,11 @@
 -- Lines of bits that tell signs: after one more entry is marked, and what they tell of a row that clashes.
-use Rattle.std.proofs.Common.{◌≡◌, ℕ, zero, suc, ◌+◌, ◌*◌, ◌/◌, ◌%◌, ◌^◌, ◌≤◌, ◌<◌, List, [], length, get_or, set, Bool, sym, refl, ap, ◌∙◌, subst, arith, inl, inr, ◌⊎◌, max, take}
-use Rattle.std.specs.Prelude.{ℤ, pos, bit_or, replicate}
+use Rattle.std.proofs.Common.{◌≡◌, ℕ, ◌+◌, ◌*◌, ◌/◌, ◌%◌, ◌^◌, ◌≤◌, ◌<◌, List, [], length, get_or, set, Bool, sym, ap, ◌∙◌, subst, arith, inl, inr, ◌⊎◌, max, take}
+use Rattle.std.specs.Prelude.{ℤ, pos, bit_or}
 use Rattle.std.specs.Int.{bit_at, w64}
 use Rattle.std.proofs.lemmas.Bool.{cases_eq}
 use Rattle.std.proofs.lemmas.List.{get_or-set_same, get_or-set_other, get_or-map, get_or-take}
 use Rattle.std.proofs.lemmas.Nat.{same_from_place}
-use Rattle.std.proofs.lemmas.Nat.Bits.{bit_at_set_other, bit_at_or, bit_at-zero}
+use Rattle.std.proofs.lemmas.Nat.Bits.{bit_at_set_other, bit_at_or}
 use Rattle.stage_store.specs.Classes.{row_at, rows_at}
 use Rattle.stage_store.specs.Clashes.{TellClashes}
 use Rattle.stage_store.specs.Signs.{IsSigned, Opposes, entry_at, TellSigns, Marks}
@@ -35,20 +35,6 @@ module _ (positive : Bool) (entry : ℤ) (place bit : ℕ) (lines : List ℕ) (s
     | inr other ↦
         tells c r cw rw (sym (ap (λ n. bit_at n (r % 64)) (get_or-set_other lines place (c * words + r / 64) (bit_or (get_or lines place 0) (1 * 2 ^ bit % 2 ^ 64)) 0 other)) ∙ told)
   ]
-
--- ---- nothing is marked
-pub zeros_tell : (positive : Bool) (words width n : ℕ) (rows : List (List ℤ)) (lines : List ℕ) → lines ≡ replicate n zero → TellSigns positive words width rows lines
-zeros_tell positive words width n rows lines e = λ column q cl ql told. absurd (not_set (column * words + q / 64) (q % 64) told)
-  where
-    zero_at : (m i : ℕ) → get_or (replicate m zero) i zero ≡ zero
-    zero_at zero i = refl
-    zero_at (suc m) zero = refl
-    zero_at (suc m) (suc i) = zero_at m i
-
-    not_set : (i b : ℕ) → bit_at (get_or lines i 0) b ≡ 1 → ⊥
-    not_set i b told =
-        let none : bit_at (get_or lines i 0) b ≡ 0 = ap (λ l. bit_at (get_or l i 0) b) e ∙ ap (λ w. bit_at w b) (zero_at n i) ∙ bit_at-zero b in
-        absurd (omega (arith, none, told))
 
 -- ---- the rows of a class
 pub entry_is : (listed : List (List ℤ)) (ids : List ℕ) (width q column : ℕ) (row : List ℤ) → q < length ids → column < width → row ≡ take width (row_at listed (get_or ids q 0)) → entry_at (rows_at listed ids) q column ≡ get_or row column (pos 0)

@@ -1,12 +1,12 @@
 -- A stage at norm 0 is a stage, and its lists are the defined ones where its solutions are.
-use Rattle.std.proofs.Common.{◌≡◌, ℕ, zero, suc, ◌+◌, ◌-◌, ◌*◌, ◌^◌, ◌≤◌, ◌<◌, List, [], ◌∷◌, length, refl, ap, ap₂, sym, ◌∙◌, subst, subst₂, arith, Bool, length-append}
+use Rattle.std.proofs.Common.{◌≡◌, ℕ, suc, ◌+◌, ◌-◌, ◌*◌, ◌^◌, ◌≤◌, ◌<◌, List, [], ◌∷◌, length, refl, ap, ap₂, sym, ◌∙◌, subst, subst₂, arith, Bool, length-append}
 use Rattle.std.specs.Prelude.{ℤ, map, Result, Ok, Err, IfOk}
 use Rattle.std.specs.List.{All, Contains, AllByRecursion}
 use Rattle.std.proofs.lemmas.List.Elements.{All-get_or}
 use Rattle.std.specs.List.Sorted.{IsStrictlySortedBy}
 use Rattle.std.proofs.lemmas.List.{length-map}
 use Rattle.int_vector.specs.Vectors.{norm, dot}
-use Rattle.lift_core.specs.Systems.{LinearSystem, ToolSystem, IsToolSystem, InRange, width, row, Solves}
+use Rattle.lift_core.specs.Systems.{ToolSystem, IsToolSystem, InRange, width, row, Solves}
 use Rattle.lift_core.specs.Extended.{extend}
 use Rattle.lift_core.specs.Stages.{stage_norm, norm_cmp, has_positive_last, has_negative_last, IsStageList, ArePairsBefore, AreUsed, all_pairs, HasNoNextNorm}
 use Rattle.lift_core.specs.Ends.{solution_cmp, IsSolutionList, solutions_in, largest}
@@ -15,7 +15,7 @@ use Rattle.lift_core.proofs.Stages.{front-push}
 use Rattle.lift_core.proofs.Systems.{solution_length}
 use Rattle.lift_core.proofs.Growth.{complete}
 use Rattle.lift_core.proofs.Places.{all_used, solutions_are, nothing_listed, solutions_wait}
-use Rattle.lift_core.proofs.Walks.{first_used}
+use Rattle.lift_core.proofs.Walks.{first_used, pairs_before_next}
 use Rattle.lift_core.proofs.Orders.{before_pushed, from_map, map_ascending}
 use Rattle.row_pool.specs.Rows.{PoolValue}
 use Rattle.reduce_tree.specs.Tree.{TreeValue}
@@ -118,16 +118,12 @@ first_defined S (Last f) h =
     let e : 0 ≡ length f.system.equations.rows = omega (arith, none, ap (λ (T : ToolSystem). length T.equations.rows) h.starts.1.system) in
     subst₂ (λ (T : ToolSystem) (k : ℕ). IsSolutionList T.equations k f.rows.rows) (sym h.starts.1.system) e (subst (λ (l : List (List ℤ)). IsSolutionList S.equations 0 l) (sym h.starts.1.rows_are) h.minimal)
 
-pairs_next : (S : LinearSystem) (k : ℕ) → 0 < k → (rows : List (List ℤ)) → IsStageList S k rows → (m : ℕ) → ArePairsBefore S k m → (n : ℕ) → n ≡ m + all_pairs rows → ArePairsBefore S (k + 1) n
-pairs_next S zero h rows l m b n e = absurd (omega arith)
-pairs_next S (suc j) h rows l m b n e = let f : suc j + 1 ≡ suc (suc j) = omega arith in subst (λ i. ArePairsBefore S i n) (sym f) (rows, m, l, b, e)
-
 pub lift_defined : (s : StageValue) (l : Lifted) → 0 < s.number → s.number ≤ length s.system.equations.rows → HasNoNextNorm s.listed s.waiting s.norm → IsDefined s → StartsAt s.system (s.number + 1) (used_of s) (solutions_in s.listed) l → IsLiftedDefined l
 lift_defined s (Next t) from to none h starts =
     let all : IsStageList s.system.equations s.number s.listed = complete s.system.equations s.number s.norm s.listed s.waiting h.listed h.waiting none in
     let p : (m : ℕ) × ArePairsBefore s.system.equations s.number m × (used_of s ≡ m + all_pairs s.listed) = all_used s.system.equations s.number s.norm s.listed s.waiting h.listed h.waiting none (used_of s) h.used in
     start_defined s.system s.number (used_of s) (solutions_in s.listed) t (solutions_are s.system.equations s.number from to s.listed all)
-    (record { before = used_of s; pairs_before = pairs_next s.system.equations s.number from s.listed all p.0 p.1 (used_of s) p.2; listed = []; is_listed = nothing_listed s.system.equations (s.number + 1); sum = omega arith }) starts.2
+    (record { before = used_of s; pairs_before = pairs_before_next s.system.equations s.number from s.listed all p.0 (used_of s) p.1 p.2; listed = []; is_listed = nothing_listed s.system.equations (s.number + 1); sum = omega arith }) starts.2
 lift_defined s (Last f) from to none h starts =
     let all : IsStageList s.system.equations s.number s.listed = complete s.system.equations s.number s.norm s.listed s.waiting h.listed h.waiting none in
     let e : s.number ≡ length f.system.equations.rows = omega (arith, starts.0, to, ap (λ (T : ToolSystem). length T.equations.rows) starts.1.system) in

@@ -16,7 +16,7 @@ use Rattle.lift_core.specs.Systems.{LinearSystem, width, Solves, ObeysSigns, Obe
 use Rattle.lift_core.specs.Stages.{lex_cmp}
 use Rattle.lift_core.specs.Units.{unit, IsSignedUnit}
 use Rattle.lift_core.specs.Ends.{solution_cmp, IsSolutionList, leaves_range, largest}
-use Rattle.lift_core.proofs.Units.{signed_unit_of}
+use Rattle.lift_core.proofs.Units.{norm-unit, signed_unit_of}
 use Rattle.lift_core.proofs.Lists.{contains_cases, contains_head, contains_tail, contains_nothing, each_contained, each_from_contained}
 use Rattle.stage_store.specs.UnitVectors.{unit_column, unit_entry, unit_vector, IsUnitBefore, AreUnitsBefore}
 
@@ -24,11 +24,6 @@ use Rattle.stage_store.specs.UnitVectors.{unit_column, unit_entry, unit_vector, 
 norm-zeros : (n : ℕ) → norm (replicate n (pos 0)) ≡ 0
 norm-zeros zero = refl
 norm-zeros (suc n) = omega (arith, norm-zeros n)
-
-pub norm-unit : (n j : ℕ) (a : ℤ) → j < n → norm (unit n j a) ≡ nat_abs a
-norm-unit zero j a h = absurd (omega arith)
-norm-unit (suc n) zero a h = omega (arith, norm-zeros n)
-norm-unit (suc n) (suc j) a h = omega (arith, norm-unit n j a (omega arith))
 
 -- a unit vector, once its entry is put back
 pub unit_undone : (n j : ℕ) (a : ℤ) → j < n → set (unit n j a) j (pos 0) ≡ replicate n (pos 0)

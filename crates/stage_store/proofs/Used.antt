@@ -19,9 +19,6 @@ within f g e = cond (has_positive_last f && (has_negative_last g && leb (stage_n
 abbrev exactly : List ℤ → List ℤ → ℕ → ℕ
 exactly f g e = cond (has_positive_last f && (has_negative_last g && eqb (stage_norm f + stage_norm g) e)) 1 0
 
-within_is : (listed : List (List ℤ)) (e : ℕ) → pairs_within listed e ≡ sum_by (λ f. sum_by (λ g. within f g e) listed) listed
-within_is listed e = refl
-
 -- ---- the pairs of norm e
 abbrev seconds : List (List ℤ) → ℕ → List ℤ → List (List ℤ)
 seconds gs e f = filter (λ g. stage_norm f + stage_norm g == e) (filter has_negative_last gs)
