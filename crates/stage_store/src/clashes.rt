@@ -11,11 +11,13 @@ use crate::stage::Stage;
 use row_pool::RowId;
 use std::alloc::{AllocError, Global};
 
-/// Lines of bits that tell the signs of the entries of a class of rows: for each column a line of words, with a bit for
-/// each row, of the entries above 0 and of those below.
+/// Lines of bits that tell the signs of the entries of a class of rows. A line is that of a column, and has a bit for each
+/// row: it is set only where the entry is above 0, and in the other lines only where it is below.
 #[derive(Drop)]
 pub struct Clashes {
+    /// How many words a line has, 64 rows each.
     pub words: usize,
+    /// The lines of the columns, one after another.
     pub above: Vec<u64>,
     pub under: Vec<u64>,
 }
@@ -23,7 +25,7 @@ pub struct Clashes {
 impl Clashes {
     ghost use Rattle.stage_store.specs.Clashes.{HasLines, TellsOf, TellClashes};
 
-    /// The signs of the rows at the places.
+    /// The lines for the rows at the places, in that order.
     pub fn of(alloc: Global, stage: &Stage, ids: &[u32]) -> Result<Clashes, AllocError>
         requires places { AllByRecursion (λ i. i < length stage.now.listed) ids.now }
         requires few { length ids.now ≤ 2 ^ 21 }
