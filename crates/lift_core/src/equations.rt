@@ -279,25 +279,3 @@ fn same_signs(signs: &[i8], others: &[i8]) -> bool
 {
     signs == others
 }
-
-#[cfg(test)]
-mod tests {
-    use super::*;
-    use std::test::Fail;
-
-    // 2 x = 1 for `zsolve`: 2 x - x0 = 0
-    #[test]
-    fn a_copy_is_an_equal_system(rt: HostRuntime) -> Result<(), Fail> {
-        let rows = Vec::from_slice(rt.alloc(), &[2, -1])?;
-        let signs = Vec::from_slice(rt.alloc(), &[1, 1])?;
-        let system = System::build(Tool::Zsolve, 1, 2, rows, signs);
-        let copy = system.copy(rt.alloc())?;
-        assert!(rt; copy.same(&system));
-        assert_eq!(rt; copy.row(1), [2, -1].as_slice());
-        assert!(rt; copy.solves(1, &[1, 2]) && !copy.solves(1, &[1, 1]));
-        assert!(rt; copy.obeys(&[1, 1]) && !copy.obeys(&[1, 2]) && !copy.obeys(&[-1, 1]));
-        assert_eq!(rt; copy.home(&[3, 1]), 1);
-        assert_eq!(rt; copy.written(&[3, 1]), [3].as_slice());
-        Ok(())
-    }
-}

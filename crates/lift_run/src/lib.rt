@@ -7,6 +7,3 @@ mod stages;
 
 pub use ends::{Limits, Place, RunEnd};
 pub use stages::{run, run_system};
-
-#[cfg(test)]
-mod tests;

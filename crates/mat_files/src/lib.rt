@@ -12,8 +12,6 @@ mod printing;
 mod relations;
 mod scanning;
 mod tables;
-#[cfg(test)]
-mod tests;
 
 pub use faults::{TextEnd, TextFault};
 pub use grid::{Grid, read_grid};

@@ -20,6 +20,3 @@ mod signature;
 mod tree;
 
 pub use tree::Tree;
-
-#[cfg(test)]
-mod tests;

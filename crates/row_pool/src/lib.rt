@@ -177,23 +177,3 @@ fn grow(cells: &mut Vec<i64>, wanted: usize) -> Result<(), AllocError>
     }
     Ok(())
 }
-
-#[cfg(test)]
-mod tests {
-    use super::*;
-
-    #[test]
-    fn rows_and_spare(rt: HostRuntime) -> Result<(), AllocError> {
-        let mut pool = Pool::new(rt.alloc(), 2);
-        pool.reserve(2)?;
-        assert!(rt; pool.spare() >= 2);
-        assert_eq!(rt; pool.push(&[1, -2]), RowId(0));
-        assert_eq!(rt; pool.push(&[0, 3]), RowId(1));
-        let before = pool.spare();
-        pool.truncate(1);
-        assert_eq!(rt; pool.len(), 1);
-        assert_eq!(rt; pool.row(RowId(0)), [1, -2].as_slice());
-        assert_eq!(rt; pool.spare() - before, 1);
-        Ok(())
-    }
-}

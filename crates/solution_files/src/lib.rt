@@ -10,6 +10,3 @@ mod selection;
 
 pub use output::write_grid;
 pub use selection::{Kind, select};
-
-#[cfg(test)]
-mod tests;

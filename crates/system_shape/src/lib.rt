@@ -11,8 +11,6 @@ mod faults;
 mod files;
 pub mod laws;
 mod shaping;
-#[cfg(test)]
-mod tests;
 
 pub use faults::{ShapeEnd, ShapeFault};
 pub use files::Input;

@@ -17,6 +17,3 @@ mod top;
 pub use ends::{End, Part, Status};
 pub use program::run_program;
 pub use top::run_tool;
-
-#[cfg(test)]
-mod tests;
