@@ -4,6 +4,7 @@ use outside::{
     DirFolder, Folder, MemFolder, MemSink, PutEnd, ReadEnd, Sink, StdSink, SureFolder, SureSink,
     Words, read_all,
 };
+use std::alloc::Global;
 use std::fs;
 use std::rt::Files;
 use std::test::Fail;
@@ -37,15 +38,20 @@ fn append_lines<F: Folder>(folder: &mut F, name: &str) -> Result<(), PutEnd> {
     Ok(())
 }
 
+// Adds lines to `old.txt`, asks the length of `new.txt`, and adds a byte. The lengths of both then.
+fn lengths<F: Folder>(folder: &mut F) -> Result<(Option<u64>, Option<u64>), PutEnd> {
+    append_lines(folder, "old.txt")?;
+    let new = folder.size("new.txt")?;
+    folder.append("old.txt", b"a")?;
+    Ok((folder.size("old.txt")?, new))
+}
+
 // The lengths of two files, of which the first was given the second's name before lines were appended.
 fn append_and_rename<R: Files + AllocGlobal>(rt: &R) -> Result<(Option<u64>, Option<u64>), Fail> {
     let mut folder = DirFolder::new(rt);
     folder.begin("old.txt")?;
     fs::rename(rt, "old.txt", "new.txt")?;
-    append_lines(&mut folder, "old.txt")?;
-    let new = folder.size("new.txt")?;
-    folder.append("old.txt", b"a")?;
-    Ok((folder.size("old.txt")?, new))
+    Ok(lengths(&mut folder)?)
 }
 
 // Appends go on through the handle that `begin` made, so the lines reach the file under its new name. A
@@ -114,26 +120,43 @@ fn listed_call_of_a_sink_fails(rt: HostRuntime) -> Result<(), Fail> {
     Ok(())
 }
 
+// Whether the file is read whole.
+fn is_read<F: Folder>(
+    alloc: Global,
+    folder: &mut F,
+    limit: u64,
+    text: &[u8],
+) -> Result<bool, ReadEnd> {
+    Ok(match read_all(alloc, folder, "f", limit)? {
+        Some(bytes) => bytes.as_slice() == text,
+        None => false,
+    })
+}
+
 // A file of two pieces is read whole at its very length, and not below it.
 #[test]
 fn whole_file_is_read(rt: HostRuntime) -> Result<(), Fail> {
     let text = vec![in rt.alloc(); b'a'; 70_000]?;
     let mut folder = SureFolder::new(rt.alloc());
     folder.insert("f", &text)?;
-    let bytes = read_all(rt.alloc(), &mut folder, "f", 70_000)?.ok_or("no file")?;
-    assert_eq!(rt; bytes.as_slice(), text.as_slice());
-    let long = read_all(rt.alloc(), &mut folder, "f", 69_999);
-    assert!(rt; matches!(long, Err(ReadEnd::TooLong { len: 70_000 })));
+    assert!(rt; is_read(rt.alloc(), &mut folder, 70_000, &text)?);
+    let long = is_read(rt.alloc(), &mut folder, 69_999, &text);
+    assert_eq!(rt; long.err(), Some(ReadEnd::TooLong { len: 70_000 }));
     Ok(())
 }
 
 #[test]
-fn words_and_bytes_are_kept(rt: HostRuntime) -> Result<(), Fail> {
+fn words_are_kept(rt: HostRuntime) -> Result<(), Fail> {
     let mut words = Words::new(rt.alloc());
     words.push("first")?;
     assert_eq!(rt; words.word(0), "first");
+    Ok(())
+}
+
+#[test]
+fn bytes_are_kept(rt: HostRuntime) -> Result<(), Fail> {
     let mut sink = SureSink::new(rt.alloc());
-    sink.put(b"ab")?;
-    assert_eq!(rt; sink.bytes(), b"ab".as_slice());
+    assert_eq!(rt; put_twice(&mut sink)?, None);
+    assert_eq!(rt; sink.bytes(), b"abcd".as_slice());
     Ok(())
 }

@@ -13,18 +13,40 @@ fn double(alloc: Global) -> Result<System, AllocError> {
     Ok(System::build(Tool::Hilbert, 2, 2, rows, signs))
 }
 
-// Closes the next norm with at most four listed rows. The norm, where this is done.
-fn close_next(alloc: Global, stage: &mut Stage) -> Result<Option<u64>, AllocError> {
+// The first stage.
+fn first(alloc: Global) -> Result<Option<Stage>, AllocError> {
+    Ok(match Stage::first(alloc, double(alloc)?)? {
+        Lifted::Next(stage) => Some(stage),
+        Lifted::Last(_) => None,
+    })
+}
+
+// A closed norm, the number of listed rows and the used pairs.
+type Closed = (u64, u32, u64);
+
+// Closes the next norm with at most four listed rows.
+fn close_next(alloc: Global, stage: &mut Stage) -> Result<Option<Closed>, AllocError> {
     let Some(Next::Norm(norm)) = stage.next_norm() else {
         return Ok(None);
     };
     let closed = stage.sums(alloc, norm)?;
-    Ok(stage.publish(&closed, 4).ok().map(|()| norm))
+    if stage.publish(&closed, 4).is_err() {
+        return Ok(None);
+    }
+    Ok(Some((norm, stage.len(), stage.used())))
 }
 
 // Whether the row stands at this place of the list.
 fn lists(stage: &Stage, place: u32, row: &[i64]) -> bool {
     place < stage.len() && stage.row(RowId(place)) == row
+}
+
+// Whether these four rows (x1, x2, t) are listed.
+fn lists_all(stage: &Stage) -> bool {
+    lists(stage, 0, &[0, 1, -2])
+        && lists(stage, 1, &[1, 0, 1])
+        && lists(stage, 2, &[1, 1, -1])
+        && lists(stage, 3, &[2, 1, 0])
 }
 
 // The number of solutions and of pairs, where no norm and no equation is left.
@@ -38,25 +60,30 @@ fn finish(stage: Stage) -> Option<(u32, u64)> {
     }
 }
 
-// The rows (x1, x2, t) that each norm lists, and the used pairs.
+// Closes three norms.
+fn close_three(alloc: Global, stage: &mut Stage) -> Result<[Option<Closed>; 3], AllocError> {
+    Ok([
+        close_next(alloc, stage)?,
+        close_next(alloc, stage)?,
+        close_next(alloc, stage)?,
+    ])
+}
+
+// The three norms of the stage, whether its rows are the wanted ones, and its finish.
+fn run(
+    alloc: Global,
+) -> Result<Option<([Option<Closed>; 3], bool, Option<(u32, u64)>)>, AllocError> {
+    let Some(mut stage) = first(alloc)? else {
+        return Ok(None);
+    };
+    let norms = close_three(alloc, &mut stage)?;
+    let is_listed = lists_all(&stage);
+    Ok(Some((norms, is_listed, finish(stage))))
+}
+
 #[test]
 fn one_equation_norm_by_norm(rt: HostRuntime) -> Result<(), Fail> {
-    let alloc = rt.alloc();
-    let Lifted::Next(mut stage) = Stage::first(alloc, double(alloc)?)? else {
-        panic!(&rt; "there is a row");
-    };
-    for (norm, len, used) in [(1, 2, 0), (2, 3, 1), (3, 4, 2)] {
-        assert_eq!(rt; close_next(alloc, &mut stage)?, Some(norm));
-        assert_eq!(rt; (stage.len(), stage.used()), (len, used));
-    }
-    for (place, row) in [
-        (0, [0, 1, -2]),
-        (1, [1, 0, 1]),
-        (2, [1, 1, -1]),
-        (3, [2, 1, 0]),
-    ] {
-        assert!(rt; lists(&stage, place, &row));
-    }
-    assert_eq!(rt; finish(stage), Some((1, 2)));
+    let norms = [Some((1, 2, 0)), Some((2, 3, 1)), Some((3, 4, 2))];
+    assert_eq!(rt; run(rt.alloc())?, Some((norms, true, Some((1, 2)))));
     Ok(())
 }
