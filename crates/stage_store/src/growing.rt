@@ -122,6 +122,26 @@ fn append_part(listed: &mut Pool, rows: &Pool, from: u32, to: u32)
     }
 }
 
+/// Makes room for `rows` listed rows more, and for a class more of either sign. After an error nothing is listed.
+pub fn make_room(
+    listed: &mut Pool,
+    plus: &mut Vec<Class>,
+    minus: &mut Vec<Class>,
+    rows: u32,
+) -> Result<(), AllocError>
+    requires { length listed.old.rows + rows < 2 ^ 32 }
+    ensures listed { (listed.new.width ≡ listed.old.width) × (listed.new.rows ≡ listed.old.rows) }
+    ensures plus { plus.new.items ≡ plus.old.items }
+    ensures minus { minus.new.items ≡ minus.old.items }
+    ensures spare { OnOk result (rows ≤ listed.new.spare) }
+    ensures above { OnOk result (vec_len plus.new < vec_capacity plus.new) }
+    ensures below { OnOk result (vec_len minus.new < vec_capacity minus.new) }
+{
+    listed.reserve(rows)?;
+    plus.reserve(1)?;
+    minus.reserve(1)
+}
+
 /// Lists rows, in the pool and in the tree that holds its rows. After an error both hold the rows that they held.
 pub fn list_rows(listed: &mut Pool, tree: &mut Tree, rows: &Pool) -> Result<(), AllocError>
     requires held { HoldsRows tree.old listed.old }

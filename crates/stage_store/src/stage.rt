@@ -18,7 +18,7 @@ ghost use Rattle.stage_store.specs.Published.{IsClosedNorm, IsPublish, IsFurther
 
 use crate::class::{Class, count_pairs, find_pair, lesser, pair_norm_above};
 use crate::gathering::{Found, take_norm};
-use crate::growing::{add_class, class_of, list_rows, merged_rows, waits_up_to};
+use crate::growing::{add_class, class_of, list_rows, make_room, merged_rows, waits_up_to};
 use crate::lifting::{extended, kept_solutions, units};
 use int_vector::{Visits, add_into, conformal, norm};
 use lift_core::{IntRow, System};
@@ -434,9 +434,8 @@ impl Stage {
         ensures further { OnOk result (IsFurther self.old self.new) }
     {
         let growth = self.growth(closed, limit)?;
-        self.listed.reserve(growth.rows.len())?;
-        self.plus.reserve(1)?;
-        self.minus.reserve(1)?;
+        let room = growth.rows.len();
+        make_room(&mut self.listed, &mut self.plus, &mut self.minus, room)?;
         list_rows(&mut self.listed, &mut self.tree, &growth.rows)?;
         add_class(&mut self.plus, growth.plus);
         add_class(&mut self.minus, growth.minus);

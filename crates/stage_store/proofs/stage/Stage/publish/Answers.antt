@@ -29,14 +29,14 @@ invariant_of-self-2 c =
     c.self.inside.plus.items c.self.inside.minus.items c.add_class.new.classes.items c.add_class-2.new.classes.items c.in_ok-growth.growth
     c.self.invariant (subst (λ (s : StageValue). IsNextNorm s.listed s.waiting s.norm c.args.closed.now.norm) (sym c.self.view_is) c.requires.next) c.requires.small c.requires.limit
     (subst (λ (s : StageValue). IsGrowth s c.args.closed.now.norm c.args.limit c.in_ok-growth.growth) (sym c.self.view_is) c.in_ok-growth.ensures)
-    (c.list_rows.ensures.width ∙ c.reserve.ensures.same.0)
-    (c.in_ok-list_rows.ensures.ok ∙ ap (λ (l : List (List ℤ)). l ++ c.in_ok-growth.growth.rows.rows) c.reserve.ensures.same.1) c.list_rows.ensures.held
-    (c.add_class.ensures ∙ ap (λ (l : List ClassValue). with_class c.in_ok-growth.growth.plus.norm c.in_ok-growth.growth.plus.ids l) c.reserve-2.ensures.items)
-    (c.add_class-2.ensures ∙ ap (λ (l : List ClassValue). with_class c.in_ok-growth.growth.minus.norm c.in_ok-growth.growth.minus.ids l) c.reserve-3.ensures.items)
+    (c.list_rows.ensures.width ∙ c.make_room.ensures.listed.0)
+    (c.in_ok-list_rows.ensures.ok ∙ ap (λ (l : List (List ℤ)). l ++ c.in_ok-growth.growth.rows.rows) c.make_room.ensures.listed.1) c.list_rows.ensures.held
+    (c.add_class.ensures ∙ ap (λ (l : List ClassValue). with_class c.in_ok-growth.growth.plus.norm c.in_ok-growth.growth.plus.ids l) c.make_room.ensures.plus)
+    (c.add_class-2.ensures ∙ ap (λ (l : List ClassValue). with_class c.in_ok-growth.growth.minus.norm c.in_ok-growth.growth.minus.ids l) c.make_room.ensures.minus)
 
 pub returns-clause-end : goal.returns-clause-end
 returns-clause-end c =
-    let rows : c.list_rows.new.listed.rows ≡ c.self.inside.listed.rows ++ c.in_ok-growth.growth.rows.rows = c.in_ok-list_rows.ensures.ok ∙ ap (λ (l : List (List ℤ)). l ++ c.in_ok-growth.growth.rows.rows) c.reserve.ensures.same.1 in
+    let rows : c.list_rows.new.listed.rows ≡ c.self.inside.listed.rows ++ c.in_ok-growth.growth.rows.rows = c.in_ok-list_rows.ensures.ok ∙ ap (λ (l : List (List ℤ)). l ++ c.in_ok-growth.growth.rows.rows) c.make_room.ensures.listed.1 in
     let g : IsGrowth (value_of c.self.inside.system c.self.inside.number c.self.inside.norm c.self.inside.before c.self.inside.listed.rows (drop c.self.inside.waited c.self.inside.waiting.rows)) c.args.closed.now.norm c.args.limit c.in_ok-growth.growth =
     subst (λ (s : StageValue). IsGrowth s c.args.closed.now.norm c.args.limit c.in_ok-growth.growth) (sym c.self.view_is) c.in_ok-growth.ensures in (
       subst (λ (s : StageValue). IsPublished s c.args.closed.now.norm (value_of c.self.inside.system c.self.inside.number c.args.closed.now.norm c.self.inside.before c.list_rows.new.listed.rows (drop (c.self.inside.waited + c.in_ok-growth.growth.taken) c.self.inside.waiting.rows))) c.self.view_is
