@@ -70,10 +70,7 @@ graver_for_user U n rows well e k h =
     (λ x. same_pairs (IsWrittenOf (system_of U) n Every) (IsWrittenForUser U Every) x (negated x) (IsTrue (leads_negative x) → ⊥) (written_for_user U well n Every x e k) (written_for_user U well n Every (negated x) e k))).0
     h
 
-module _ (tool : Tool) (input : Input) (formed : IsWellFormed (user_system tool input)) where
-  as_many : input.mat.cols ≡ length (user_system tool input).signs
-  as_many = sym (length-replicate input.mat.cols None) ∙ formed.caps
-
+module _ (tool : Tool) (input : Input) (formed : IsWellFormed (user_system tool input)) (as_many : input.mat.cols ≡ length (user_system tool input).signs) where
   pub user_files : (files : List OutputFile) → AreFilesOf tool (tool_system tool input) files → AreOutputsOf tool (user_system tool input) input.mat.cols files
   user_files = elim tool as (λ t. IsWellFormed (user_system t input) → input.mat.cols ≡ length (user_system t input).signs → (files : List OutputFile) → AreFilesOf t (tool_system t input) files → AreOutputsOf t (user_system t input) input.mat.cols files) [
     | Graver ↦ λ f n files h. (h.0, graver_for_user (user_system Graver input) input.mat.cols h.0 f n tt h.1, h.2)

@@ -59,6 +59,7 @@ pub record IsShaped (tool : Tool) (input : Input) (S : ToolSystem) : Type 0 wher
   pub fits : shape_fault tool input ≡ None
   pub system : S ≡ tool_system tool input
   pub formed : IsWellFormed (user_system tool input)
+  pub columns : input.mat.cols ≡ length (user_system tool input).signs
 
 abbrev pub ShapesTo : Tool → Input → Result ToolSystem End → Type 0
 ShapesTo tool input (Ok S) = IsShaped tool input S

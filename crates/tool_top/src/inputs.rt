@@ -178,6 +178,7 @@ pub(crate) fn read_input<F: Folder>(
         sign,
         rel,
         rhs,
+        cap: None,
     })
 }
 

@@ -29,7 +29,7 @@ returns-in-Err-write_outputs-clause-ends g c =
     let same : c.in-Ok-solve.finish.system ≡ tool_system c.args.tool c.args.input.now = c.in-Ok-solve.ensures.system ∙ c.in-Ok.ensures.system in
     let files : AreFilesOf c.args.tool (tool_system c.args.tool c.args.input.now) (outputs_of c.in-Ok-select_outputs.outputs) =
     subst (λ (S : ToolSystem). AreFilesOf S.tool S (outputs_of c.in-Ok-select_outputs.outputs)) same c.in-Ok-select_outputs.ensures.outputs in
-    let wanted : AreOutputs p (outputs_of c.in-Ok-select_outputs.outputs) = user_files c.args.tool c.args.input.now c.in-Ok.ensures.formed (outputs_of c.in-Ok-select_outputs.outputs) files in
+    let wanted : AreOutputs p (outputs_of c.in-Ok-select_outputs.outputs) = user_files c.args.tool c.args.input.now c.in-Ok.ensures.formed c.in-Ok.ensures.columns (outputs_of c.in-Ok-select_outputs.outputs) files in
     ends-planned c.args.tool c.args.project.now c.args.input.now (g.F.Folder.held c.args.folder.now) (g.F.Folder.held c.write_outputs.new.folder) (g.O.Sink.held c.args.out.now) (g.O.Sink.held c.args.out.now) c.in-Err-write_outputs.end c.in-Ok.ensures.fits
     (ends-cut p (g.F.Folder.held c.args.folder.now) (g.F.Folder.held c.write_outputs.new.folder) (g.O.Sink.held c.args.out.now)
     (outputs_of c.in-Ok-select_outputs.outputs) c.in-Err-write_outputs.end wanted c.in-Err-write_outputs.ensures.refused)
@@ -40,7 +40,7 @@ returns-clause-ends g c =
     let same : c.in-Ok-solve.finish.system ≡ tool_system c.args.tool c.args.input.now = c.in-Ok-solve.ensures.system ∙ c.in-Ok.ensures.system in
     let files : AreFilesOf c.args.tool (tool_system c.args.tool c.args.input.now) (outputs_of c.in-Ok-select_outputs.outputs) =
     subst (λ (S : ToolSystem). AreFilesOf S.tool S (outputs_of c.in-Ok-select_outputs.outputs)) same c.in-Ok-select_outputs.ensures.outputs in
-    let wanted : AreOutputs p (outputs_of c.in-Ok-select_outputs.outputs) = user_files c.args.tool c.args.input.now c.in-Ok.ensures.formed (outputs_of c.in-Ok-select_outputs.outputs) files in
+    let wanted : AreOutputs p (outputs_of c.in-Ok-select_outputs.outputs) = user_files c.args.tool c.args.input.now c.in-Ok.ensures.formed c.in-Ok.ensures.columns (outputs_of c.in-Ok-select_outputs.outputs) files in
     let finishes : FinishesWith p c.in-Ok-solve.finish.pairs = subst (λ S. IsFinishedWith S c.in-Ok-solve.finish.pairs) c.in-Ok.ensures.system c.in-Ok-solve.ensures.pairs in
     ends-planned c.args.tool c.args.project.now c.args.input.now (g.F.Folder.held c.args.folder.now) (g.F.Folder.held c.write_outputs.new.folder) (g.O.Sink.held c.args.out.now) (g.O.Sink.held c.tell.new.out) c.tell.result c.in-Ok.ensures.fits
     (ends-told p (g.F.Folder.held c.args.folder.now) (g.F.Folder.held c.write_outputs.new.folder) (g.O.Sink.held c.args.out.now) (g.O.Sink.held c.tell.new.out)
