@@ -89,7 +89,7 @@ input_in files project = do
   rel ← relations_in Rel (get files (file_name project Rel))
   rhs ← matrix_in Rhs (get files (file_name project Rhs))
   absent ← without files project unsupported
-  Ok (record { mat = mat; sign = sign; rel = rel; rhs = rhs })
+  Ok (record { mat = mat; sign = sign; rel = rel; rhs = rhs; cap = None })
 
 -- the plan, or the fault of the system's shape
 abbrev pub unless_fault : Option ShapeFault → Plan → Result Plan End
