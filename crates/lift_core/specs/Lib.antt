@@ -1,11 +1,8 @@
-pub mod Minimal
-pub mod Systems
-pub mod Capped
-pub mod Extended
 pub mod Lists
+pub mod Columns
+pub mod Systems
+pub mod ToolSystems
 pub mod Stages
-pub mod Sums
 pub mod Ends
-pub mod Units
-pub mod Written
+pub mod Inside
 pub mod Laws

@@ -2,12 +2,12 @@
 #![tactic(auto)]
 
 mod capped;
-mod entries;
-mod equations;
+mod int_row;
 pub mod laws;
+mod system;
 
-pub use entries::IntRow;
-pub use equations::System;
+pub use int_row::IntRow;
+pub use system::System;
 
 /// What a system is solved for, after the commands of 4ti2.
 #[derive(Clone, Copy, Debug, PartialEq, Eq, Drop)]

@@ -2,8 +2,9 @@
 use Rattle.std.proofs.Common.{◌≡◌, ◌<◌, ◌≤◌, ◌+◌, ◌-◌, ◌*◌, zero, suc, arith, subst, inl, inr, ℕ, List, [], ◌++◌, length, take, drop, Option, None, Some, refl, sym, ap, ap₂, ◌∙◌, append_assoc, append-nil, SFits, w64, to_z, of_z, to_z-of_z}
 use Rattle.std.specs.Prelude.{ℤ, pos, ◌∷◌}
 use Rattle.std.specs.Option.{option_map}
-use Rattle.mat_files.specs.Texts.{head_of, line_of, lines_of, text_of}
-use Rattle.mat_files.specs.Matrices.{Matrix}
+use Rattle.mat_files.specs.Texts.{head_of, line_of}
+use Rattle.mat_files.specs.Printed.{lines_of, text_of}
+use Rattle.mat_files.specs.Cells.{Matrix}
 use Rattle.std.specs.FinMap.{insert}
 use Rattle.std.proofs.lemmas.List.{take_at, take-append-drop}
 use Rattle.outside.specs.Files.{Files, begun, appended, MayAppend}

@@ -2,7 +2,7 @@
 use Rattle.std.proofs.Common.{◌≡◌, Option, Some, None, Err, subst}
 use Rattle.std.specs.Prelude.{Result, Ok}
 use Rattle.lift_core.specs.Systems.{ToolSystem}
-use Rattle.system_shape.specs.Shape.{unless, Shapes}
+use Rattle.system_shape.specs.Answers.{unless, Shapes}
 use Rattle.system_shape.specs.declared.faults.ShapeFault.{ShapeFault}
 use Rattle.system_shape.specs.declared.faults.ShapeEnd.{ShapeEnd}
 use Rattle.system_shape.specs.declared.faults.ShapeEnd.TheVariants.{Bad, Memory}
