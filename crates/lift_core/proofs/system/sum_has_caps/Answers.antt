@@ -1,3 +1,4 @@
+-- A column without a cap allows each sum, so the columns that have one decide.
 use Rattle.std.proofs.Common.{◌≡◌, ◌<◌, length, get_or, ap, sym, ◌∙◌, arith, subst, rules, pos, w64, SFits, to_z-of_z}
 use Rattle.std.specs.Prelude.{IsTrue, ◌↔◌}
 use Rattle.std.specs.List.{AllZip}
