@@ -1,4 +1,5 @@
 pub use Rattle.lift_core.specs.Systems
+pub use Rattle.lift_core.specs.ToolSystems
 pub use Rattle.lift_core.specs.Stages
 pub use Rattle.lift_core.specs.Ends
 pub use Rattle.stage_store.specs.Stage
