@@ -1,4 +1,5 @@
--- The sum of two vectors, entry by entry: its length, its entry at a place, and the step and the end of a loop that writes it.
+-- The sum of two vectors, entry by entry: its length, its entry at a place, and the step and the end of a loop that
+-- writes it.
 use Rattle.std.proofs.Common.{◌≡◌, ℕ, zero, suc, ◌+◌, ◌≤◌, ◌<◌, List, [], ◌∷◌, ◌++◌, length, get_or, take, set, refl, ap, ap₂, sym, ◌∙◌, arith}
 use Rattle.std.specs.Prelude.{ℤ, pos, ◌+ℤ◌, nat_abs}
 use Rattle.std.specs.List.{AllZip}

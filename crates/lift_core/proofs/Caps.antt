@@ -21,7 +21,8 @@ pub place_inside : (caps : List (Option ℕ)) (places : List ℕ) (i : ℕ) → 
 place_inside caps places i e h =
     subst (λ (ps : List ℕ). get_or ps i 0 < length caps) (sym e) (omega (arith, capped_inside 0 caps i 0 (omega (arith, h, ap length e))))
 
--- what holds at a place exactly where the entry there is within its cap holds at each of the places exactly where all entries are
+-- what holds at a place exactly where the entry there is within its cap holds at each of the places exactly where all
+-- entries are
 capped_decide : (P : ℕ → Type 0) (k : ℕ) (caps : List (Option ℕ)) (x : List ℤ) → length x ≡ length caps
     → ((j : ℕ) → j < length caps → P (k + j) ↔ IsCapped (get_or caps j None) (get_or x j (pos 0)))
     → AllZip IsCapped caps x ↔ AllByRecursion P (capped_from k caps)

@@ -1,4 +1,5 @@
--- A minimal stage vector with last entry 0 is a minimal solution of one row more, with that entry, and the other way round.
+-- A minimal stage vector with last entry 0 is a minimal solution of one row more, with that entry, and the other way
+-- round.
 -- The solutions of k rows are those of k - 1 rows whose product with row k is 0, and only 0 is within 0.
 use Rattle.std.proofs.Common.{◌≡◌, ℕ, ◌+◌, ◌-◌, ◌≤◌, ◌<◌, List, [], ◌∷◌, ◌++◌, length, take, ap, sym, ◌∙◌, subst, subst₂, arith}
 use Rattle.std.specs.Prelude.{ℤ, pos}

@@ -1,5 +1,6 @@
 -- The numbers of pairs: what the rows of the largest norm add, and how many pairs a finished stage has.
--- The number is a double sum of ones and zeros. A row of norm e is in no pair of norm at most e, as the other row has a positive norm; and where each pair
+-- The number is a double sum of ones and zeros. A row of norm e is in no pair of norm at most e, as the other row has
+-- a positive norm; and where each pair
 -- is counted, the double sum is the product of the two sums.
 use Rattle.std.proofs.Common.{◌≡◌, ℕ, ◌+◌, ◌*◌, ◌≤◌, ◌<◌, List, [], ◌∷◌, refl, ap, ap₂, sym, ◌∙◌, arith, inl, inr, Bool, true, false, cond, ◌&&◌, leb}
 use Rattle.std.specs.List.{Contains, filter, sum_by, count_by}

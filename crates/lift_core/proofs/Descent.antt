@@ -1,6 +1,9 @@
--- A sum of three or more minimal stage vectors, two of them with opposite last entries, has another one with a smaller total of last entries.
--- Take the two terms f and g out. Their sum is a stage vector, so it is a sum of minimal ones below it, whose last entries have one sign and the total
--- |t(f) + t(g)| < |t(f)| + |t(g)|. These terms take the places of f and g; all terms are below the sum in front of the last entry, so they are conformal.
+-- A sum of three or more minimal stage vectors, two of them with opposite last entries, has another one with a
+-- smaller total of last entries.
+-- Take the two terms f and g out. Their sum is a stage vector, so it is a sum of minimal ones below it, whose last
+-- entries have one sign and the total
+-- |t(f) + t(g)| < |t(f)| + |t(g)|. These terms take the places of f and g; all terms are below the sum in front of
+-- the last entry, so they are conformal.
 use Rattle.std.proofs.Common.{◌≡◌, ℕ, zero, suc, ◌+◌, ◌-◌, ◌≤◌, ◌<◌, List, [], ◌∷◌, ◌++◌, length, replicate, refl, ap, sym, ◌∙◌, subst, arith, inl, inr, ◌⊎◌, length-append}
 use Rattle.std.specs.Prelude.{ℤ, pos, nat_abs, ◌+ℤ◌, ◌*ℤ◌, ◌<ℤ◌, ◌≤ℤ◌}
 use Rattle.std.specs.List.{Contains}

@@ -1,5 +1,6 @@
 -- From a place at most one end is reached, and a finished run has the minimal solutions of all rows.
--- Of the seven rules each has the denials of those before it. So, by recursion on how the first end was reached: the next norm, if there is one, is the
+-- Of the seven rules each has the denials of those before it. So, by recursion on how the first end was reached: the
+-- next norm, if there is one, is the
 -- same for both ends, and so is the rule that fits, with what it names.
 use Rattle.std.proofs.Common.{◌≡◌, ℕ, ◌+◌, ◌≤◌, ◌<◌, List, length, refl, ap, ap₂, sym, ◌∙◌, subst, arith, Some, None}
 use Rattle.std.specs.Prelude.{ℤ, ⊤}

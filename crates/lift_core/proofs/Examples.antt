@@ -1,5 +1,6 @@
 -- Worked examples of the definitions, at three systems that were solved by hand.
--- Single vectors are proved minimal by trying all vectors below them, lists by a cover: below each nonzero stage vector is a listed one.
+-- Single vectors are proved minimal by trying all vectors below them, lists by a cover: below each nonzero stage
+-- vector is a listed one.
 use Rattle.std.proofs.Common.{◌≡◌, ℕ, zero, suc, ◌+◌, ◌-◌, ◌*◌, ◌≤◌, ◌<◌, List, [], ◌∷◌, length, replicate, refl, ap, sym, ◌∙◌, subst, arith, inl, inr, true, leb, Some, None}
 use Rattle.std.specs.Prelude.{ℤ, pos, negsuc, map, ◌+ℤ◌, ◌*ℤ◌, ◌≤ℤ◌, ◌↔◌}
 use Rattle.std.specs.List.{Contains, AllZip, AllByRecursion, filter, find}
@@ -224,7 +225,8 @@ direction_two = minimal_solution polygon 3 (point 1 2 1 1 3 0) (record { signs =
 direction_three : IsMinimalSolution polygon 3 (point 1 3 2 0 4 0)
 direction_three = minimal_solution polygon 3 (point 1 3 2 0 4 0) (record { signs = nonnegative (1 ∷ 3 ∷ 2 ∷ 0 ∷ 4 ∷ 0 ∷ []); caps = (tt, (tt, (tt, (tt, (tt, (omega arith, tt)))))); rows = (refl, (refl, (refl, tt))) }) (omega arith) refl
 
--- the points (0, 1), (1, 0), (2, 0), and (1, 1), whose slack in the first row is smaller than that of (0, 1) and in the second than that of (1, 0)
+-- the points (0, 1), (1, 0), (2, 0), and (1, 1), whose slack in the first row is smaller than that of (0, 1) and in
+-- the second than that of (1, 0)
 point_up : IsMinimalSolution polygon 3 (point 0 1 3 0 0 1)
 point_up = minimal_solution polygon 3 (point 0 1 3 0 0 1) (record { signs = nonnegative (0 ∷ 1 ∷ 3 ∷ 0 ∷ 0 ∷ 1 ∷ []); caps = (tt, (tt, (tt, (tt, (tt, (omega arith, tt)))))); rows = (refl, (refl, (refl, tt))) }) (omega arith) refl
 

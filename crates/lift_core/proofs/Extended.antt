@@ -1,5 +1,7 @@
--- Vectors with a last entry: their order, norm and differences, and that the extended members of a closed set are a closed set.
--- Each fact is that of the vector and that of the last entry; the last entry is determined by the vector, since the product with a row is linear.
+-- Vectors with a last entry: their order, norm and differences, and that the extended members of a closed set are a
+-- closed set.
+-- Each fact is that of the vector and that of the last entry; the last entry is determined by the vector, since the
+-- product with a row is linear.
 use Rattle.std.proofs.Common.{◌≡◌, zero, suc, ◌+◌, ◌<◌, List, [], ◌∷◌, ◌++◌, length, refl, ap, ap₂, sym, ◌∙◌, subst, subst₂, arith, inl, inr, ◌⊎◌}
 use Rattle.std.specs.Prelude.{ℤ, pos, nat_abs, ◌-ℤ◌, ◌+ℤ◌, ◌*ℤ◌}
 use Rattle.std.proofs.lemmas.Int.{ints}

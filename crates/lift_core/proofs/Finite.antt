@@ -1,5 +1,6 @@
 -- A set whose members stand in a list has its ascending list.
--- Finite are the elements of a list that pass a test, their images, unions of two such sets and of as many as a list has; insertion puts them in order.
+-- Finite are the elements of a list that pass a test, their images, unions of two such sets and of as many as a list
+-- has; insertion puts them in order.
 use Rattle.std.proofs.Common.{◌≡◌, List, [], ◌∷◌, ◌++◌, refl, ap, sym, ◌∙◌, subst, inl, inr, ◌⊎◌, Ordering, Less, Equal, Greater}
 use Rattle.std.specs.Prelude.{◌↔◌}
 use Rattle.std.specs.List.{Contains}

@@ -1,4 +1,5 @@
--- There is a grown list: the listed rows, the waiting ones of a norm and the irreducible sums of the pairs of this norm are finitely many.
+-- There is a grown list: the listed rows, the waiting ones of a norm and the irreducible sums of the pairs of this
+-- norm are finitely many.
 -- All that makes a sum can be tested, and there are as many pairs as the list has pairs of elements.
 use Rattle.std.proofs.Common.{◌≡◌, ℕ, ◌+◌, List, refl, ap, sym, ◌∙◌, subst, arith, inl, inr, ◌⊎◌}
 use Rattle.std.specs.Prelude.{ℤ, pos, ◌<ℤ◌, ◌≤ℤ◌, ◌*ℤ◌}

@@ -1,6 +1,9 @@
--- The completeness of the lifting by norms: what the minimal stage vectors of norm at most d say of those of the next norm.
--- A minimal stage vector of norm above d waits, or is the sum of a pair of smaller norms; going down the norms, some norm above d and not above its own
--- occurs. So none lies between d and the next norm e. Conversely a sum of norm e over no listed row is minimal, as all below it of smaller norm is listed.
+-- The completeness of the lifting by norms: what the minimal stage vectors of norm at most d say of those of the next
+-- norm.
+-- A minimal stage vector of norm above d waits, or is the sum of a pair of smaller norms; going down the norms, some
+-- norm above d and not above its own
+-- occurs. So none lies between d and the next norm e. Conversely a sum of norm e over no listed row is minimal, as
+-- all below it of smaller norm is listed.
 use Rattle.std.proofs.Common.{◌≡◌, ℕ, zero, suc, ◌+◌, ◌-◌, ◌≤◌, ◌<◌, List, refl, ap, ap₂, sym, ◌∙◌, subst, subst₂, arith, inl, inr, ◌⊎◌, le_refl}
 use Rattle.std.specs.Prelude.{ℤ, ◌↔◌}
 use Rattle.std.specs.List.{Contains}

@@ -1,6 +1,9 @@
--- The descent: a minimal extended vector is over a minimal vector, or is the sum of two minimal extended ones with opposite last entries.
--- Let t be the product with the row. A part f of x splits x into f and x - f, and t(f) is never within t(x), so t(f) and t(x) - t(f) have opposite signs.
--- Where f is not minimal when extended, one of the two parts that it splits into has a smaller |t| + |t(x) - t|; so the descent ends at two minimal ones.
+-- The descent: a minimal extended vector is over a minimal vector, or is the sum of two minimal extended ones with
+-- opposite last entries.
+-- Let t be the product with the row. A part f of x splits x into f and x - f, and t(f) is never within t(x), so t(f)
+-- and t(x) - t(f) have opposite signs.
+-- Where f is not minimal when extended, one of the two parts that it splits into has a smaller |t| + |t(x) - t|; so
+-- the descent ends at two minimal ones.
 use Rattle.std.proofs.Common.{◌≡◌, ℕ, zero, suc, ◌+◌, ◌<◌, List, refl, ap, subst, arith, max, inl, inr, ◌⊎◌}
 use Rattle.std.specs.Prelude.{ℤ, pos, nat_abs, ◌+ℤ◌, ◌-ℤ◌, ◌<ℤ◌}
 use Rattle.std.proofs.lemmas.Bool.{cases_lt}

@@ -1,5 +1,6 @@
 -- Below each nonzero member of a closed set is a minimal one, and each member is a sum of minimal ones below it.
--- A member that is not minimal has a nonzero one of smaller norm below it, so a descent on the norm ends at a minimal one; for the sum take a minimal
+-- A member that is not minimal has a nonzero one of smaller norm below it, so a descent on the norm ends at a minimal
+-- one; for the sum take a minimal
 -- one away and go on with the difference, which is a member below the first and has a smaller norm.
 use Rattle.std.proofs.Common.{◌≡◌, ℕ, zero, suc, ◌≤◌, ◌<◌, List, [], ◌∷◌, length, replicate, refl, ap, ap₂, sym, ◌∙◌, arith, inl, inr, ◌⊎◌, le_refl}
 use Rattle.std.specs.Prelude.{ℤ, pos}

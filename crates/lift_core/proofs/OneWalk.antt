@@ -1,5 +1,6 @@
 -- The walk of given lists has at most one end.
--- As for the ends from a place: the next norm and the grown list are determined by the lists in hand, and so is the rule that fits.
+-- As for the ends from a place: the next norm and the grown list are determined by the lists in hand, and so is the
+-- rule that fits.
 use Rattle.std.proofs.Common.{[], ◌≡◌, ℕ, ◌+◌, ◌≤◌, ◌<◌, List, length, refl, ap, subst, arith, Some, None}
 use Rattle.std.specs.Prelude.{ℤ, map}
 use Rattle.std.specs.List.{find}

@@ -1,5 +1,6 @@
 -- The orders of the lists are total, an entry put last keeps them, and what a filter and a map of a list contain.
--- An order by norm first and then entry by entry is total as both are; vectors of one length that differ do so before the entry that is put last.
+-- An order by norm first and then entry by entry is total as both are; vectors of one length that differ do so before
+-- the entry that is put last.
 use Rattle.std.proofs.Common.{◌≡◌, List, [], ◌∷◌, ◌++◌, length, refl, ap, sym, ◌∙◌, subst, subst₂, arith, inl, inr, Ordering, Less, Equal, Greater, Bool, true, false}
 use Rattle.std.specs.Prelude.{ℤ, map}
 use Rattle.std.specs.List.{Contains, AllByRecursion, filter}

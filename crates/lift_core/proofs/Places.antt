@@ -1,6 +1,9 @@
--- From the lists at a place to those at the next: at the next norm, and from a finished stage to the first place of the next stage.
--- The growth law gives the members of the new lists, and the orders are kept: stage vectors in order have their solutions in order, and the other way
--- round. The rows of the next norm are in no pair of at most that norm, so the used pairs grow by the pairs of the old list alone.
+-- From the lists at a place to those at the next: at the next norm, and from a finished stage to the first place of
+-- the next stage.
+-- The growth law gives the members of the new lists, and the orders are kept: stage vectors in order have their
+-- solutions in order, and the other way
+-- round. The rows of the next norm are in no pair of at most that norm, so the used pairs grow by the pairs of the
+-- old list alone.
 use Rattle.std.proofs.Common.{◌≡◌, ℕ, ◌+◌, ◌-◌, ◌≤◌, ◌<◌, List, [], ◌∷◌, ◌++◌, length, refl, ap, sym, ◌∙◌, subst, subst₂, arith, inl, inr, Bool, true, not, Less, Equal, Greater, eqb, leb}
 use Rattle.std.specs.Prelude.{ℤ, pos, map, int_lt, ◌<ℤ◌}
 use Rattle.std.specs.List.{Contains, AllByRecursion, filter}

@@ -1,5 +1,6 @@
 -- A search below a vector ends: of the finitely many vectors below it each fails a test, or one passes it.
--- By recursion on the entries: for the first entry x try 0, .., |x| with the sign of x, and for each of them search the rest of the vector.
+-- By recursion on the entries: for the first entry x try 0, .., |x| with the sign of x, and for each of them search
+-- the rest of the vector.
 use Rattle.std.proofs.Common.{◌≡◌, ℕ, zero, suc, ◌≤◌, List, [], ◌∷◌, subst, arith, inl, inr, ◌⊎◌}
 use Rattle.std.specs.Prelude.{ℤ, pos, negsuc, nat_abs, neg_ℤ}
 use Rattle.std.proofs.lemmas.Int.{ints}

@@ -1,5 +1,6 @@
 -- Stage vectors: their last entry, and the pair that a minimal one over no minimal solution is the sum of.
--- It is the descent for the solutions of the rows before row k and for row k; of the two summands the one with the positive last entry is named first.
+-- It is the descent for the solutions of the rows before row k and for row k; of the two summands the one with the
+-- positive last entry is named first.
 use Rattle.std.proofs.Common.{◌≡◌, ℕ, zero, suc, ◌+◌, ◌-◌, ◌<◌, List, [], ◌∷◌, ◌++◌, length, take, get_or, refl, ap, sym, ◌∙◌, subst, subst₂, arith, inl, inr, ◌⊎◌}
 use Rattle.std.specs.Prelude.{ℤ, pos, ◌-ℤ◌, ◌+ℤ◌, ◌<ℤ◌}
 use Rattle.int_vector.specs.Vectors.{norm, dot, ◌⊑◌}

@@ -1,5 +1,7 @@
--- The solutions of a system are a closed set: they can be tested, and the difference of a solution and one below it is a solution.
--- Signs and caps pass from a vector to all that is below it, and the product with a row is linear. So do sums of solutions that obey the caps.
+-- The solutions of a system are a closed set: they can be tested, and the difference of a solution and one below it
+-- is a solution.
+-- Signs and caps pass from a vector to all that is below it, and the product with a row is linear. So do sums of
+-- solutions that obey the caps.
 use Rattle.std.proofs.Common.{◌≡◌, ℕ, ◌+◌, ◌≤◌, List, [], ◌∷◌, length, take, ap₂, sym, ◌∙◌, arith, inl, inr, ◌⊎◌, Option, None, Some}
 use Rattle.std.specs.Prelude.{ℤ, pos, negsuc, ◌≤ℤ◌, nat_abs, ◌-ℤ◌, ◌+ℤ◌}
 use Rattle.std.specs.List.{AllZip, AllByRecursion}

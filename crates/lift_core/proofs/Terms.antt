@@ -1,5 +1,7 @@
--- A solution is a sum of minimal solutions below it, and where its entry in a column is 1, exactly one term has a 1 there.
--- All terms are below the solution, so each has 0 or 1 in that column, and the entry of the sum is the number of the ones.
+-- A solution is a sum of minimal solutions below it, and where its entry in a column is 1, exactly one term has a 1
+-- there.
+-- All terms are below the solution, so each has 0 or 1 in that column, and the entry of the sum is the number of the
+-- ones.
 use Rattle.std.proofs.Common.{◌≡◌, ℕ, zero, suc, ◌+◌, ◌-◌, List, [], ◌∷◌, length, replicate, get_or, cond, refl, ap, ap₂, sym, ◌∙◌, subst, arith}
 use Rattle.std.specs.Prelude.{ℤ, pos, negsuc, ◌+ℤ◌}
 use Rattle.std.specs.List.{Contains, count_by}

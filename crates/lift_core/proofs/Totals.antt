@@ -1,5 +1,6 @@
 -- Sums of lists of vectors of n entries.
--- On vectors of one length addition is commutative and associative, and the zero vector is neutral; so the sum of two lists put together is that of both.
+-- On vectors of one length addition is commutative and associative, and the zero vector is neutral; so the sum of two
+-- lists put together is that of both.
 use Rattle.std.proofs.Common.{◌≡◌, ℕ, zero, suc, List, [], ◌∷◌, ◌++◌, length, replicate, refl, ap, ap₂, sym, ◌∙◌, arith}
 use Rattle.std.specs.Prelude.{ℤ, pos, ◌+ℤ◌}
 use Rattle.std.specs.List.{Contains}

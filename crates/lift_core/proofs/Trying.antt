@@ -1,5 +1,7 @@
--- Whether a given vector is minimal, by trying all vectors below it: a test that computes, and that a vector which passes is minimal.
--- What is below a vector and has its norm is the vector itself; so it is enough that each nonzero member below has at least its norm.
+-- Whether a given vector is minimal, by trying all vectors below it: a test that computes, and that a vector which
+-- passes is minimal.
+-- What is below a vector and has its norm is the vector itself; so it is enough that each nonzero member below has at
+-- least its norm.
 use Rattle.std.proofs.Common.{◌≡◌, ℕ, zero, suc, ◌≤◌, ◌<◌, List, [], ◌∷◌, take, refl, ap, ap₂, sym, ◌∙◌, subst, arith, inl, inr, Bool, true, false, not, ◌&&◌, ◌||◌, eqb, leb}
 use Rattle.std.specs.Prelude.{ℤ, pos, nat_abs}
 use Rattle.std.specs.List.{AllByRecursion}

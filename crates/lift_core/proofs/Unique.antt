@@ -1,5 +1,7 @@
--- At most one list is listed, waits, is the list of a stage or of the solutions, or is grown; at most one number is that of the used pairs, and at most one
--- norm is next. Each list is an ascending list of the members of a set; the numbers are counts in such lists; the next norm is a least one.
+-- At most one list is listed, waits, is the list of a stage or of the solutions, or is grown; at most one number is
+-- that of the used pairs, and at most one
+-- norm is next. Each list is an ascending list of the members of a set; the numbers are counts in such lists; the
+-- next norm is a least one.
 use Rattle.std.proofs.Common.{◌⊎◌, ◌≡◌, ℕ, zero, suc, ◌+◌, ◌-◌, ◌≤◌, ◌<◌, List, ap₂, sym, ◌∙◌, subst₂, arith, Option, Some, None}
 use Rattle.std.specs.Prelude.{ℤ}
 use Rattle.std.specs.List.{Contains}

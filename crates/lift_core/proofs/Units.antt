@@ -1,5 +1,6 @@
 -- The minimal solutions of no rows are the signed unit vectors that signs and caps allow.
--- A nonzero vector has a signed unit vector below it, in the column of one of its nonzero entries; a vector of norm 1 has only itself and 0 below it.
+-- A nonzero vector has a signed unit vector below it, in the column of one of its nonzero entries; a vector of norm 1
+-- has only itself and 0 below it.
 use Rattle.std.proofs.Common.{◌≡◌, ℕ, zero, suc, ◌<◌, List, [], ◌∷◌, length, get_or, replicate, refl, ap, sym, ◌∙◌, subst, arith, inl, inr, Option, Some, None}
 use Rattle.std.specs.Prelude.{ℤ, pos, negsuc, nat_abs}
 use Rattle.std.specs.List.{AllZip}

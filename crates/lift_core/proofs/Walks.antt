@@ -1,5 +1,6 @@
 -- The walk of the lists at a place has the end that is reached from it, and so has the walk from the start.
--- By recursion on the walk: at each step the lists in hand are those at the place, since the grown list and the rows that still wait are those at the next
+-- By recursion on the walk: at each step the lists in hand are those at the place, since the grown list and the rows
+-- that still wait are those at the next
 -- norm, and those that a finished stage hands on are those at norm 0 of the next stage.
 use Rattle.std.proofs.Common.{◌≡◌, ℕ, zero, suc, ◌+◌, ◌≤◌, ◌<◌, List, [], length, refl, sym, subst, arith}
 use Rattle.std.specs.Prelude.{map, ℤ}

@@ -1,4 +1,5 @@
--- Of a nonzero vector and its negative exactly one leads negative: the first nonzero entry decides, and its negative has the other sign.
+-- Of a nonzero vector and its negative exactly one leads negative: the first nonzero entry decides, and its negative
+-- has the other sign.
 use Rattle.std.proofs.Common.{◌≡◌, zero, suc, List, [], ◌∷◌, refl, not}
 use Rattle.std.specs.Prelude.{ℤ, pos, negsuc}
 use Rattle.int_vector.specs.Vectors.{IsZero, negated, leads_negative}

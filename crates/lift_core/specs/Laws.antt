@@ -50,7 +50,8 @@ OneTerm =
     → IsDecomposition (Solves S k) v terms → slice_index_or v j (pos 0) ≡ pos 1
     → count_by (λ u. int_eq (slice_index_or u j (pos 0)) (pos 1)) terms ≡ 1
 
--- a stage vector that is the sum of three or more minimal ones with conformal fronts, two of them with opposite last entries, is such a sum of two or more with a smaller total of last entries
+-- a stage vector that is the sum of three or more minimal ones with conformal fronts, two of them with opposite last
+-- entries, is such a sum of two or more with a smaller total of last entries
 abbrev pub SumsDescend : Type 0
 SumsDescend =
     (S : LinearSystem) (k : ℕ) (z : List ℤ) (terms : List (List ℤ)) → IsStageVector S k z

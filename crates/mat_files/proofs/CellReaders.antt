@@ -1,4 +1,5 @@
--- A word is read as a number or a cap exactly where it spells one in range, and as a relation exactly where it spells one.
+-- A word is read as a number or a cap exactly where it spells one in range, and as a relation exactly where it spells
+-- one.
 use Rattle.std.proofs.Common.{◌≡◌, ℕ, Bool, true, false, cond, nat_le, Option, Some, None, Ok, Err, refl, sym, ap, subst, ◌∙◌}
 use Rattle.std.proofs.lemmas.Bool.{leb-true, le-leb, cond-true}
 use Rattle.std.proofs.Math.IntN.{ℤ, nat_abs}

@@ -1,4 +1,5 @@
--- The words of a text, from its front: blanks are skipped, and the bytes up to the next blank or the end are the first word.
+-- The words of a text, from its front: blanks are skipped, and the bytes up to the next blank or the end are the
+-- first word.
 use Rattle.std.proofs.Common.{◌≡◌, ◌<◌, ◌≤◌, ◌+◌, ℕ, zero, suc, Bool, true, false, cond, List, [], ◌∷◌, length, get_or, take, drop, refl, sym, ap, ◌∙◌, arith}
 use Rattle.std.proofs.lemmas.Bool.{cond-true, cond-false}
 use Rattle.std.proofs.lemmas.List.{drop_more}

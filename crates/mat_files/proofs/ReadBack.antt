@@ -1,4 +1,5 @@
--- The text that is printed of a matrix spells this matrix: each of its words is one number's text, behind which one blank stands.
+-- The text that is printed of a matrix spells this matrix: each of its words is one number's text, behind which one
+-- blank stands.
 use Rattle.std.proofs.Common.{◌≡◌, ◌<◌, ◌≤◌, ◌+◌, ◌*◌, ◌^◌, ℕ, zero, suc, true, Some, Result, IfOk, Ok, Err, List, [], ◌∷◌, ◌++◌, length, map, take, drop, refl, sym, ap, subst, ◌∙◌, arith, decimal, append_assoc, length-drop}
 use Rattle.std.proofs.lemmas.Bool.{cond-true, cond-false}
 use Rattle.std.proofs.Math.IntN.{ℤ}

@@ -1,4 +1,5 @@
--- Files without a fault give a user's system within the limits, and the linear system that it stands for is one that can be built.
+-- Files without a fault give a user's system within the limits, and the linear system that it stands for is one that
+-- can be built.
 use Rattle.std.proofs.Common.{◌≡◌, ℕ, ◌+◌, ◌-◌, ◌*◌, ◌/◌, ◌%◌, ◌<◌, ◌≤◌, List, [], ◌∷◌, ◌++◌, length, drop, replicate, refl, lit≤, ap, ap₂, sym, ◌∙◌, subst, inl, arith, Bool, true, false, Some, None, length-append, append-nil}
 use Rattle.std.specs.Prelude.{ℤ, pos}
 use Rattle.std.specs.List.{All, AllByRecursion}
@@ -21,13 +22,26 @@ use Rattle.system_shape.specs.declared.faults.ShapeFault.{ShapeFault}
 use Rattle.std.specs.Option.{IfNone}
 use Rattle.system_shape.specs.declared.files.Input.{Input}
 use Rattle.system_shape.specs.Problem.{UserSystem}
+use Rattle.system_shape.specs.Laws.{IsWellFormed}
 use Rattle.system_shape.specs.Slacks.{slack_count, slack_parts, x0_signs, x0_caps, linear_system}
 use Rattle.system_shape.specs.Shape.{given_signs, given_relations, given_rights, given_caps, user_rows, has_x0, user_system}
 use Rattle.system_shape.specs.Inside.Cells.{slack_total, cells_from}
-use Rattle.system_shape.specs.Inside.Accepted.{AreSigns, AreRights, AreUserCaps, AreFitting, IsAccepted}
+use Rattle.system_shape.specs.Inside.Accepted.{AreSigns, AreRights, AreUserCaps, AreFitting}
 use Rattle.system_shape.proofs.Law.{parts_count, rows_count}
 use Rattle.system_shape.proofs.RowCells.{cells_are_rows, cut_rows-joined, length-joined, rows_long, cells_small}
 use Rattle.system_shape.proofs.UserRows.{length-user_rows, slack_count-user_rows, few_slacks, coefficients_have, rights_have}
+
+-- a user's system of 1 to 64 columns and at most 64 rows, whose numbers are in range
+pub record IsAccepted (tool : Tool) (U : UserSystem) : Type 0 where
+  pub well : IsWellFormed U
+  pub x0 : U.x0 ≡ has_x0 tool
+  pub caps : All IsCap U.caps
+  pub some_columns : 1 ≤ length U.signs
+  pub most_columns : length U.signs ≤ 64
+  pub most_rows : length U.rows ≤ 64
+  pub signs : All IsSign U.signs
+  pub coefficients : AllByRecursion (λ r. All InRange r.coefficients) U.rows
+  pub rights : AllByRecursion (λ r. InRange r.right) U.rows
 
 -- files without a fault fit the matrix
 pub fitting_from : (tool : Tool) (input : Input) (mat : Matrix) (o : Option ShapeFault) → mat ≡ input.mat → IsMatrix mat.rows mat.cols mat.cells → mat.rows ≤ 64 → mat.cols ≤ 64

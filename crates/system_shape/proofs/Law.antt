@@ -1,4 +1,5 @@
--- The law between the user's system and the linear system, both ways: a row of the linear system, times a full vector, is the user's row times x, plus or minus
+-- The law between the user's system and the linear system, both ways: a row of the linear system, times a full
+-- vector, is the user's row times x, plus or minus
 -- its slack, minus c times its right side.
 use Rattle.std.proofs.Common.{◌≡◌, ℕ, zero, suc, ◌*◌, ◌≤◌, List, [], ◌∷◌, ◌++◌, length, take, map, replicate, refl, ap, sym, ◌∙◌, subst, subst₂, arith, Bool, true, false, None}
 use Rattle.std.specs.Prelude.{ℤ, pos, negsuc, neg_ℤ, nat_abs, ◌+ℤ◌, ◌*ℤ◌, ◌≤ℤ◌}

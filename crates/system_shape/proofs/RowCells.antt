@@ -1,4 +1,5 @@
--- The entries that are written row by row are those of the linear system's rows: the part of a row in the slack columns has a zero for each slack
+-- The entries that are written row by row are those of the linear system's rows: the part of a row in the slack
+-- columns has a zero for each slack
 -- before its own. By recursion on the rows.
 use Rattle.std.proofs.Common.{◌≡◌, ℕ, zero, suc, ◌+◌, ◌*◌, List, [], ◌∷◌, ◌++◌, length, take, drop, map, replicate, refl, ap, ap₂, sym, ◌∙◌, subst, arith, Bool, true, false, length-append}
 use Rattle.std.specs.Prelude.{ℤ, pos, negsuc, neg_ℤ}

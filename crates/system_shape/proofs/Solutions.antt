@@ -1,4 +1,5 @@
--- Solutions of the user's system and vectors that solve the linear system belong to each other one by one, and so do the minimal ones.
+-- Solutions of the user's system and vectors that solve the linear system belong to each other one by one, and so do
+-- the minimal ones.
 use Rattle.std.proofs.Common.{◌≡◌, ◌↔◌, ℕ, List, [], ◌∷◌, ◌++◌, length, take, ap, ap₂, sym, ◌∙◌, subst, append_assoc, Bool, true, false}
 use Rattle.std.specs.Prelude.{ℤ}
 use Rattle.std.proofs.Math.Seq.{take-append_seam}

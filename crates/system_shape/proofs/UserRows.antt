@@ -1,4 +1,5 @@
--- The user's rows, which are made of three lists: what each has, how many slacks they have, and the step from one row to the next.
+-- The user's rows, which are made of three lists: what each has, how many slacks they have, and the step from one row
+-- to the next.
 use Rattle.std.proofs.Common.{◌≡◌, ℕ, zero, suc, ◌<◌, ◌≤◌, List, [], ◌∷◌, ◌++◌, length, drop, get_or, refl, ap, ap₂, sym, ◌∙◌, arith, append_assoc, append-nil, Bool, length-drop}
 use Rattle.std.specs.Prelude.{ℤ, pos}
 use Rattle.std.specs.List.{AllByRecursion}

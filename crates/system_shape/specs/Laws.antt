@@ -37,7 +37,8 @@ FullSolves =
     (U : UserSystem) (c : ℤ) (x : List ℤ) → IsWellFormed U → IsX0 U.x0 c → SolvesUser U c x
     → Solves (linear_system U) (length U.rows) (full_vector U c x)
 
--- a vector that solves the linear system is the full vector of a solution: x is its first entries, and c its entry in the column of x0
+-- a vector that solves the linear system is the full vector of a solution: x is its first entries, and c its entry in
+-- the column of x0
 abbrev pub IsFull : Type 0
 IsFull =
     (U : UserSystem) (v : List ℤ) → IsWellFormed U → Solves (linear_system U) (length U.rows) v
@@ -50,13 +51,15 @@ OneSolution =
     (U : UserSystem) (c d : ℤ) (x y : List ℤ) → IsUserSolution U c x → IsUserSolution U d y
     → full_vector U c x ≡ full_vector U d y → (c ≡ d) × (x ≡ y)
 
--- x, with c, solves the user's system exactly where a vector stands for it; then one vector does, whose slacks are the differences
+-- x, with c, solves the user's system exactly where a vector stands for it; then one vector does, whose slacks are
+-- the differences
 abbrev pub OneVector : Type 0
 OneVector =
     (U : UserSystem) (c : ℤ) (x v : List ℤ) → IsWellFormed U → StandsFor U c x v
     ↔ (IsUserSolution U c x × (v ≡ full_vector U c x))
 
--- vectors that solve the linear system, with the same first entries and the same entry in the column of x0, are the same
+-- vectors that solve the linear system, with the same first entries and the same entry in the column of x0, are the
+-- same
 abbrev pub FirstEntriesDecide : Type 0
 FirstEntriesDecide =
     (U : UserSystem) (v w : List ℤ) → IsWellFormed U → Solves (linear_system U) (length U.rows) v

@@ -1,9 +1,11 @@
 -- The problem that the three commands solve, in the words of the field. Nothing here says how it is solved.
 --
 -- A system has an unknown x of n entries, each with a sign and perhaps a cap, and rows `a x <= b`, `a x = b` or
--- `a x >= b`. It is asked for with the right sides b (c = 1), with right sides 0 (c = 0), or for both together. Wanted are
+-- `a x >= b`. It is asked for with the right sides b (c = 1), with right sides 0 (c = 0), or for both together.
+-- Wanted are
 -- the solutions that are minimal in the conformal order of Graver (1975), which compares x and the differences of both
--- sides of each inequality. Norm, product, order and lists: `int_vector/specs/Vectors.antt`, `lift_core/specs/Lists.antt`.
+-- sides of each inequality. Norm, product, order and lists: `int_vector/specs/Vectors.antt`,
+-- `lift_core/specs/Lists.antt`.
 use Rattle.std.specs.Prelude.{◌≡◌, ℕ, List, [], ◌∷◌, ◌++◌, ℤ, pos, ◌*ℤ◌, ◌-ℤ◌, ◌≤ℤ◌, Option, Bool, true, false, IsTrue, ⊤}
 use Rattle.std.specs.List.{AllZip, AllByRecursion}
 use Rattle.int_vector.specs.Vectors.{dot, ◌⊑◌, IsZero, lex_cmp, negated, leads_negative}

@@ -1,4 +1,5 @@
--- The linear system that stands for the user's: a slack column for each inequality makes it an equation, and x0 brings the
+-- The linear system that stands for the user's: a slack column for each inequality makes it an equation, and x0
+-- brings the
 -- right sides to the left. How a run ends, and how many pairs it uses, is said of this system.
 use Rattle.std.specs.Prelude.{ℕ, suc, List, [], ◌∷◌, ◌++◌, ℤ, pos, negsuc, neg_ℤ, map, replicate, Option, Some, None, Bool, true, false}
 use Rattle.lift_core.specs.Systems.{LinearSystem}

@@ -6,8 +6,7 @@ use Rattle.int_vector.specs.Range.{InRange}
 use Rattle.lift_core.specs.ToolSystems.{IsSign, AreCaps}
 use Rattle.system_shape.specs.Shape.{user_system}
 use Rattle.system_shape.specs.Slacks.{linear_system}
-use Rattle.system_shape.specs.Inside.Accepted.{IsAccepted}
-use Rattle.system_shape.proofs.Building.{fitting_accepted, first_columns, most_width, whole_rows, few_entries, entries_small, signs_known, cap_count, caps_fit, built}
+use Rattle.system_shape.proofs.Building.{IsAccepted, fitting_accepted, first_columns, most_width, whole_rows, few_entries, entries_small, signs_known, cap_count, caps_fit, built}
 use Rattle.system_shape.proofs.shaping.assemble.Goals as goal
 
 pub overflow_cast-width : goal.overflow_cast-width
