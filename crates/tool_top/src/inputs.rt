@@ -1,4 +1,5 @@
-// The steps before anything is solved: each finds what it should, or gives the answer that ends the run.
+//! The steps before anything is solved: each finds what it should, or gives the answer that ends the run.
+
 ghost use Rattle.std.specs.Prelude.{◌≡◌, ◌≤◌, ℕ, [], ◌∷◌, IfOk, IfErr, IfSome, Err};
 ghost use Rattle.std.specs.Option.{option_map};
 ghost use Rattle.std.specs.FinMap.{get};
@@ -6,16 +7,15 @@ ghost use Rattle.outside.specs.Causes.{Rose};
 ghost use Rattle.mat_files.specs.Matrices.{matrix_of};
 ghost use Rattle.mat_files.specs.Relations.{relations_of};
 ghost use Rattle.tool_top.specs.Names.{file_name};
-ghost use Rattle.tool_top.specs.Planned.{bytes_in, optional, matrix_in, relations_in, input_in, without, unsupported, Finds, FindsBy, IsInput, IsEarly};
-ghost use Rattle.tool_top.specs.Solved.{ShapesTo};
+ghost use Rattle.tool_top.specs.Inputs.{bytes_in, optional, matrix_in, relations_in, input_in, without, unsupported};
+ghost use Rattle.tool_top.specs.Inside.Steps.{Finds, FindsBy, IsInput, IsEarly};
 
 use crate::names::name;
 use crate::{End, Part};
-use lift_core::{System, Tool};
 use mat_files::{Grid, RelGrid, TextEnd, read_grid, read_rel};
 use outside::{Folder, PutEnd, ReadEnd, read_all};
 use std::alloc::Global;
-use system_shape::{Input, ShapeEnd, shape};
+use system_shape::Input;
 
 // The longest file that is read.
 const LONGEST: u64 = 4_194_304;
@@ -179,17 +179,4 @@ pub(crate) fn read_input<F: Folder>(
         rel,
         rhs,
     })
-}
-
-// The linear system that stands for the files' own.
-pub(crate) fn shape_system(alloc: Global, tool: Tool, input: &Input) -> Result<System, End>
-    requires rows { input.now.mat.rows ≤ 64 }
-    requires cols { input.now.mat.cols ≤ 64 }
-    ensures { ShapesTo tool input.now result }
-{
-    match shape(alloc, tool, input) {
-        Ok(system) => Ok(system),
-        Err(ShapeEnd::Bad(fault)) => Err(End::Shape(fault)),
-        Err(ShapeEnd::Memory) => Err(End::Memory),
-    }
 }

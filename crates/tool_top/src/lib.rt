@@ -10,7 +10,6 @@ mod inputs;
 mod names;
 mod outputs;
 mod program;
-mod solving;
 mod summary;
 mod top;
 

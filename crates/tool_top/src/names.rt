@@ -1,4 +1,5 @@
-// The words of a command, and the names of a project's files.
+//! The words of a command, and the names of a project's files.
+
 ghost use Rattle.std.specs.Prelude.{◌≡◌, ◌==◌, not, IfOk, string_bytes};
 ghost use Rattle.std.specs.List.{list_all};
 ghost use Rattle.std.specs.Option.{option_map};
@@ -8,12 +9,14 @@ use crate::Part;
 use outside::Words;
 use std::alloc::{AllocError, Global};
 
+// No byte is 0.
 fn has_no_zero(bytes: &[u8]) -> bool
     ensures { result ≡ list_all (λ b. not (b == 0)) bytes.now }
 {
     bytes.iter().all(|b| *b != 0)
 }
 
+// The name is one of a project.
 fn is_project(name: &[u8]) -> bool
     ensures { result ≡ is_name name.now }
 {
@@ -43,6 +46,7 @@ pub(crate) fn project(words: &Words) -> Option<&str>
     }
 }
 
+// The ending of a file's name.
 fn ending_text(part: Part) -> &'static str
     ensures { result.now ≡ ending part }
 {

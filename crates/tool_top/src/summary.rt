@@ -1,8 +1,10 @@
-// The summary on standard output.
+//! The summary on standard output.
+
 ghost use Rattle.std.specs.Prelude.{◌≡◌, OnOk, OnErr};
 ghost use Rattle.std.specs.Io.KnownBytes.{append_known};
 ghost use Rattle.outside.specs.Causes.{HasCause};
-ghost use Rattle.tool_top.specs.Ends.{MayPut, text_of_pieces, summary_of};
+ghost use Rattle.tool_top.specs.Summary.{MayPut, summary_of};
+ghost use Rattle.tool_top.specs.Inside.Writing.{text_of_pieces};
 
 use itoa::Buffer;
 use outside::{PutEnd, Sink};

@@ -1,6 +1,6 @@
 use Rattle.std.proofs.Common.{arith}
 use Rattle.std.proofs.lemmas.Result.{err_from_is_err_and}
-use Rattle.tool_top.proofs.PutLemmas.{put_front}
+use Rattle.tool_top.proofs.Pieces.{put_front}
 use Rattle.tool_top.proofs.summary.put_pieces.Goals as goal
 
 pub returns-in_err-put-clause-refused : goal.returns-in_err-put-clause-refused

@@ -1,6 +1,6 @@
 use Rattle.std.proofs.Common.{◌≡◌, ◌≤◌, take}
 use Rattle.std.specs.Io.KnownBytes.{append_known}
-use Rattle.tool_top.specs.Ends.{text_of_pieces}
+use Rattle.tool_top.specs.Inside.Writing.{text_of_pieces}
 use Rattle.tool_top.proofs.summary.put_pieces.Given as goal
 
 abbrev pub invariant-loop-piece : goal.invariant-loop-piece

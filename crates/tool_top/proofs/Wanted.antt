@@ -1,7 +1,5 @@
 -- The output file of selected rows: its text, how many rows it has, and the sum of their norms.
-use Rattle.std.proofs.Common.{◌≡◌, ℕ, ◌+◌, List, [], ◌∷◌, ◌++◌, length, refl, ap, sym, ◌∙◌, subst, arith, inl, inr, Option, None, Result, Ok, Err, IfErr, OnErr}
-use Rattle.std.specs.Option.{option_map}
-use Rattle.outside.specs.Files.{Files}
+use Rattle.std.proofs.Common.{◌≡◌, ℕ, ◌+◌, List, [], ◌∷◌, ◌++◌, length, refl, ap, sym, ◌∙◌, subst, arith, None}
 use Rattle.lift_core.specs.Systems.{ToolSystem}
 use Rattle.lift_core.specs.declared.Tool.{Tool}
 use Rattle.lift_core.specs.declared.Tool.TheVariants.{Graver, Hilbert, Zsolve}
@@ -18,19 +16,16 @@ use Rattle.std.proofs.lemmas.List.{length-replicate}
 use Rattle.solution_files.specs.Laws.{AreAllSolutions}
 use Rattle.solution_files.proofs.TextLemmas.{text_of-rows}
 use Rattle.solution_files.proofs.WantedLemmas.{wanted_plain, wanted_graver}
-use Rattle.tool_top.specs.declared.ends.End.{End}
-use Rattle.tool_top.specs.Names.{file_name}
-use Rattle.tool_top.specs.Planned.{IsOutput}
-use Rattle.tool_top.specs.Solved.{IsWantedBy, AreFilesOf, CutsTo}
+use Rattle.tool_top.specs.Inside.Writing.{IsWantedBy, AreFilesOf}
 use Rattle.std.specs.Prelude.{ℤ, IsTrue}
 use Rattle.std.specs.List.{flat_map, sum_by}
 use Rattle.std.proofs.lemmas.List.Sums.{sum_by-cons}
 use Rattle.int_vector.specs.Vectors.{norm}
 use Rattle.mat_files.specs.Matrices.{Matrix}
 use Rattle.mat_files.specs.Texts.{text_of}
-use Rattle.solution_files.specs.Outputs.{grid_of, text_of_rows, written, MayWrite, kind_of, IsSelected, IsSelection}
+use Rattle.solution_files.specs.Outputs.{grid_of, text_of_rows, kind_of, IsSelected, IsSelection}
 use Rattle.tool_top.specs.declared.ends.Part.{Part}
-use Rattle.tool_top.specs.Ends.{OutputFile, file_of, Yields, AreOutputsOf}
+use Rattle.tool_top.specs.Outputs.{OutputFile, file_of, AreOutputsOf}
 
 norm-append : (u v : List ℤ) → norm (u ++ v) ≡ norm u + norm v
 norm-append [] v = omega arith
@@ -86,14 +81,3 @@ module _ (tool : Tool) (input : Input) (formed : IsWellFormed (user_system tool 
       h.4,
     )
   ] formed as_many
-
--- ---- the second output was cut
-yields_cut : (project : List ℕ) (a b : OutputFile) (e : End) (held mid new : Option Files) → IsOutput b.part → mid ≡ option_map (written (file_name project a.part) a.text) held
-    → Yields b.part e → MayWrite (file_name project b.part) b.text mid new → CutsTo project (a ∷ b ∷ []) held new e
-yields_cut project a b e held mid new out first (inl fault) may = subst (CutsTo project (a ∷ b ∷ []) held new) (sym fault) (out, inr (inl (refl, subst (λ m. MayWrite (file_name project b.part) b.text m new) first may)))
-yields_cut project a b e held mid new out first (inr memory) may = subst (CutsTo project (a ∷ b ∷ []) held new) (sym memory) (b.part, out, inr (inl (refl, subst (λ m. MayWrite (file_name project b.part) b.text m new) first may)))
-
-pub second_cut : (r : Result (Unit {0}) End) (project : List ℕ) (a b : OutputFile) (held mid new : Option Files) → IsOutput b.part → mid ≡ option_map (written (file_name project a.part) a.text) held
-    → IfErr r (Yields b.part) → OnErr r (MayWrite (file_name project b.part) b.text mid new) → IfErr r (CutsTo project (a ∷ b ∷ []) held new)
-second_cut (Ok u) project a b held mid new out first only may = tt
-second_cut (Err e) project a b held mid new out first only may = yields_cut project a b e held mid new out first only may

@@ -1,0 +1,4 @@
+-- What only private contracts cite.
+pub mod Steps
+pub mod Ends
+pub mod Writing
