@@ -3,6 +3,7 @@ pub mod Files
 pub mod Ends
 pub mod Inputs
 pub mod Kernel
+pub mod Basis
 pub use Rattle.outside.specs.Files as OutsideFiles
 pub use Rattle.outside.specs.Causes
 pub use Rattle.mat_files.specs.Matrices
