@@ -1,5 +1,5 @@
 -- What the ends of a command say: an answer that comes early, a run that was stopped or cut, and a run that has written all.
-use Rattle.std.proofs.Common.{◌≡◌, ◌≢◌, ◌⊎◌, inl, inr, ℕ, List, [], ◌∷◌, Option, None, Some, Result, Ok, Err, IfSome, IsOkAnd, IsErrAnd, refl, ap, sym, subst}
+use Rattle.std.proofs.Common.{◌≡◌, ◌≢◌, ◌⊎◌, inl, inr, ℕ, List, [], ◌∷◌, Option, None, Some, Result, Ok, Err, IfSome, IsOkAnd, IsErrAnd, refl, sym, subst}
 use Rattle.std.specs.Option.{option_map}
 use Rattle.outside.specs.Files.{Files}
 use Rattle.lift_core.specs.Systems.{ToolSystem}
@@ -10,25 +10,29 @@ use Rattle.lift_run.specs.declared.ends.Place.TheVariants.{Row, Norm}
 use Rattle.lift_run.specs.declared.ends.RunEnd.{RunEnd}
 use Rattle.lift_run.specs.declared.ends.RunEnd.TheVariants.{Overflow as RunOverflow, Pairs as RunPairs, Rows as RunRows, Memory as RunMemory}
 use Rattle.lift_run.specs.Runs.{end_of_error}
-use Rattle.system_shape.specs.Shape.{UserSystem, user_system, tool_system, shape_fault, shaped, unless, Shapes}
+use Rattle.system_shape.specs.Shape.{UserSystem, user_system, tool_system}
 use Rattle.system_shape.specs.declared.files.Input.{Input}
-use Rattle.system_shape.specs.declared.faults.ShapeFault.{ShapeFault}
-use Rattle.system_shape.specs.declared.faults.ShapeEnd.{ShapeEnd}
-use Rattle.system_shape.specs.declared.faults.ShapeEnd.TheVariants.{Bad, Memory as ShapeMemory}
+use Rattle.system_files.specs.declared.sources.Source.{Source}
+use Rattle.system_files.specs.declared.sources.Source.TheVariants as source
+use Rattle.system_files.specs.declared.faults.FileFault.TheVariants as file_fault
+use Rattle.system_files.specs.declared.faults.InputFault.{InputFault}
+use Rattle.system_files.specs.declared.faults.InputFault.TheVariants as input_fault
+use Rattle.system_files.specs.declared.faults.InputStop.{InputStop}
+use Rattle.system_files.specs.declared.faults.InputStop.TheVariants as stop
+use Rattle.system_files.specs.declared.systems.Shaped.{Shaped}
+use Rattle.system_files.specs.Inputs.{accepted_in, FindsBy}
 use Rattle.tool_top.specs.declared.ends.Part.{Part}
 use Rattle.tool_top.specs.declared.ends.Part.TheVariants.{Mat, Gra, Hil, Zhom, Zinhom, Out}
 use Rattle.tool_top.specs.declared.ends.End.{End}
-use Rattle.tool_top.specs.declared.ends.End.TheVariants.{Done, Usage, Shape, Overflow, Pairs, Rows, Outside, Memory}
+use Rattle.tool_top.specs.declared.ends.End.TheVariants.{Done, Missing, TooLong, Text, Refused, Shape, Outside, Memory}
 use Rattle.tool_top.specs.declared.ends.Totals.{Totals}
 use Rattle.tool_top.specs.Names.{project_in}
-use Rattle.tool_top.specs.Inputs.{input_in}
-use Rattle.tool_top.specs.Plan.{Plan, unless_fault, plan_of, planned}
+use Rattle.tool_top.specs.Plan.{Plan, part_of, answer_of, planned}
 use Rattle.tool_top.specs.Outputs.{OutputFile, AreOutputs, AreOutputsOf, HasWritten, file_of, written_all, rows_in}
 use Rattle.tool_top.specs.Expected.{default_limits, RunComesTo, FinishesWith, IsExpected, ComesTo, OnDone}
 use Rattle.tool_top.specs.Summary.{Tells}
 use Rattle.tool_top.specs.Left.{Traces, IsUntouched, IsCutAt, IsCutInFile, LeavesCut, Leaves}
-use Rattle.tool_top.specs.Inside.Steps.{IsInput, IsEarly, FailsAs}
-use Rattle.tool_top.specs.Inside.Ends.{end_of_shape, end_of_run, end_of, Ends}
+use Rattle.tool_top.specs.Inside.Ends.{end_of_stop, end_of_run, end_of, Ends}
 use Rattle.tool_top.specs.Inside.Writing.{CutsTo, TellsOf}
 
 -- the traces of a run over a folder that tells its files
@@ -55,101 +59,66 @@ at_error P (Ok totals) e is h = absurd is
 at_error P (Err y) e is h = subst P (sym is) h
 
 -- ---- an answer that comes before the run
-input_leaves : (plan : Result Plan End) (t : Traces) (part : Part) → IsInput part → IsUntouched t → LeavesCut plan t part
-input_leaves plan t Gra h u = absurd h
-input_leaves plan t Hil h u = absurd h
-input_leaves plan t Zhom h u = absurd h
-input_leaves plan t Zinhom h u = absurd h
-input_leaves plan t Out h u = absurd h
-input_leaves plan t part h u = u
-
 memory_ends : (plan : Result Plan End) (t : Traces) → IsUntouched t → Ends plan t Memory
 memory_ends plan t u = record { comes = tt; leaves = (Mat, u) }
 
 answer_expected : (plan : Result Plan End) (e : End) → plan ≡ Err e → IsExpected plan e
 answer_expected plan e is = subst (λ r. IsExpected r e) (sym is) refl
 
-early_ends : {A : Type 0} (found : Result A End) (plan : Result Plan End) (e : End) → ((x : End) → found ≡ Err x → plan ≡ Err x)
-    → FailsAs e found → IsEarly e → (t : Traces) → IsUntouched t → Ends plan t e
-early_ends found plan (Done s p n) back f h t u = absurd h
-early_ends found plan Usage back f h t u = absurd h
-early_ends found plan (Overflow k p) back f h t u = absurd h
-early_ends found plan (Pairs k d n) back f h t u = absurd h
-early_ends found plan (Rows k d n) back f h t u = absurd h
-early_ends found plan (Outside part) back f h t u = record { comes = tt; leaves = input_leaves plan t part h u }
-early_ends found plan Memory back f h t u = memory_ends plan t u
-early_ends found plan e back f h t u = record { comes = answer_expected plan e (back e f); leaves = u }
+fault_ends : (plan : Result Plan End) (fault : InputFault) → plan ≡ Err (answer_of fault) → (t : Traces) → IsUntouched t → Ends plan t (answer_of fault)
+fault_ends plan (input_fault.File at file_fault.Missing) is t u = record { comes = answer_expected plan (Missing (part_of at)) is; leaves = u }
+fault_ends plan (input_fault.File at (file_fault.TooLong len)) is t u = record { comes = answer_expected plan (TooLong (part_of at)) is; leaves = u }
+fault_ends plan (input_fault.File at (file_fault.Text fault)) is t u = record { comes = answer_expected plan (Text (part_of at) fault) is; leaves = u }
+fault_ends plan (input_fault.Refused at) is t u = record { comes = answer_expected plan (Refused (part_of at)) is; leaves = u }
+fault_ends plan (input_fault.Shape fault) is t u = record { comes = answer_expected plan (Shape fault) is; leaves = u }
 
-plan_fails : (tool : Tool) (words : List (List ℕ)) (files : Files) (project : List ℕ) (e : End) → project_in words ≡ Some project
-    → input_in files project ≡ Err e → planned tool words files ≡ Err e
-plan_fails tool words files project e is found = rw is (rw found refl)
+source_leaves : (plan : Result Plan End) (t : Traces) (at : Source) → IsUntouched t → LeavesCut plan t (part_of at)
+source_leaves plan t source.Mat u = u
+source_leaves plan t source.Sign u = u
+source_leaves plan t source.Rel u = u
+source_leaves plan t source.Rhs u = u
+source_leaves plan t source.Cap u = u
+source_leaves plan t source.Lat u = u
+source_leaves plan t source.Lb u = u
+source_leaves plan t source.Ub u = u
 
-plan_is : (tool : Tool) (words : List (List ℕ)) (files : Files) (project : List ℕ) (input : Input) → project_in words ≡ Some project
-    → input_in files project ≡ Ok input → planned tool words files ≡ plan_of tool project input
-plan_is tool words files project input is found = rw is (rw found refl)
+-- a project is named, and reading its files came to this
+module _ (tool : Tool) (words : List (List ℕ)) (project : List ℕ) (is : project_in words ≡ Some project) where
+  plan_fails : (files : Files) (fault : InputFault) → accepted_in tool project files ≡ Err fault → planned tool words files ≡ Err (answer_of fault)
+  plan_fails files fault found = rw is (rw found refl)
 
-pub ends-usage : (tool : Tool) (words : List (List ℕ)) (held : Option Files) (told : Option (List ℕ)) → project_in words ≡ None
-    → IfSome held (λ files. Ends (planned tool words files) (traces files held told told) Usage)
-ends-usage tool words None told is = tt
-ends-usage tool words (Some files) told is =
-    record { comes = answer_expected (planned tool words files) Usage (rw is refl); leaves = untouched files (Some files) told refl }
+  plan_is : (files : Files) (input : Input) → accepted_in tool project files ≡ Ok input
+      → planned tool words files ≡ Ok (record { project = project; tool = tool; input = input })
+  plan_is files input found = rw is (rw found refl)
 
-pub ends-early : (tool : Tool) (words : List (List ℕ)) (project : List ℕ) (held new : Option Files) (told : Option (List ℕ)) (e : End) (r : Result Totals End)
-    → project_in words ≡ Some project → new ≡ held → IfSome held (λ files. FailsAs e (input_in files project)) → IsEarly e
-    → IsErrAnd r (λ y. y ≡ e) → IfSome held (λ files. Ends (planned tool words files) (traces files new told told) (end_of r))
-ends-early tool words project None new told e r is same f h err = tt
-ends-early tool words project (Some files) new told e r is same f h err =
-    at_error (Ends (planned tool words files) (traces files new told told)) r e err
-    (early_ends (input_in files project) (planned tool words files) e (λ x found. plan_fails tool words files project x is found) f h
-    (traces files new told told) (untouched files new told same))
+  stop_ends : (files : Files) (e : InputStop) → FindsBy (λ (s : Shaped). s.input) (Err e) (accepted_in tool project files)
+      → (t : Traces) → IsUntouched t → Ends (planned tool words files) t (end_of_stop e)
+  stop_ends files (stop.Bad fault) f t u = fault_ends (planned tool words files) fault (plan_fails files fault f) t u
+  stop_ends files (stop.Failed at) f t u = record { comes = tt; leaves = source_leaves (planned tool words files) t at u }
+  stop_ends files stop.Memory f t u = memory_ends (planned tool words files) t u
 
--- ---- a run that is carried out ends as its plan says
-pub ends-carried : (tool : Tool) (words : List (List ℕ)) (project : List ℕ) (input : Input) (held mid new : Option Files) (told tells : Option (List ℕ)) (e : End)
-    → project_in words ≡ Some project → mid ≡ held → IfSome held (λ files. input_in files project ≡ Ok input)
-    → EndsOver (plan_of tool project input) mid new told tells e
-    → IfSome held (λ files. Ends (planned tool words files) (traces files new told tells) e)
-ends-carried tool words project input None mid new told tells e is same found ends = tt
-ends-carried tool words project input (Some files) mid new told tells e is same found ends =
-    subst (λ p. Ends p (traces files new told tells) e) (sym (plan_is tool words files project input is found))
-    (let h : EndsOver (plan_of tool project input) (Some files) new told tells e =
-    subst (λ m. EndsOver (plan_of tool project input) m new told tells e) same ends in h)
+  pub ends-early : (held new : Option Files) (told : Option (List ℕ)) (e : InputStop) (r : Result Totals End) → new ≡ held
+      → IfSome held (λ files. FindsBy (λ (s : Shaped). s.input) (Err e) (accepted_in tool project files))
+      → IsErrAnd r (λ y. y ≡ end_of_stop e) → IfSome held (λ files. Ends (planned tool words files) (traces files new told told) (end_of r))
+  ends-early None new told e r same f err = tt
+  ends-early (Some files) new told e r same f err =
+      at_error (Ends (planned tool words files) (traces files new told told)) r (end_of_stop e) err
+      (stop_ends files e f (traces files new told told) (untouched files new told same))
 
--- ---- the files do not fit together, or they do
-is_fault : {X : Type 0} (o : Option ShapeFault) (x : X) (fault : ShapeFault) → unless o x ≡ Err fault → o ≡ Some fault
-is_fault None x fault h = cc
-is_fault (Some f) x fault h = cc
+  -- a run that is carried out ends as its plan says
+  pub ends-carried : (input : Input) (held mid new : Option Files) (told tells : Option (List ℕ)) (e : End) → mid ≡ held
+      → IfSome held (λ files. accepted_in tool project files ≡ Ok input)
+      → EndsOver (Ok (record { project = project; tool = tool; input = input })) mid new told tells e
+      → IfSome held (λ files. Ends (planned tool words files) (traces files new told tells) e)
+  ends-carried input None mid new told tells e same found ends = tt
+  ends-carried input (Some files) mid new told tells e same found ends =
+      subst (λ p. Ends p (traces files new told tells) e) (sym (plan_is files input found))
+      (let h : EndsOver (Ok (record { project = project; tool = tool; input = input })) (Some files) new told tells e =
+      subst (λ m. EndsOver (Ok (record { project = project; tool = tool; input = input })) m new told tells e) same ends in h)
 
-pub fits : {X : Type 0} (o : Option ShapeFault) (x s : X) → unless o x ≡ Ok s → (o ≡ None) × (s ≡ x)
-fits None x s h = (refl, cc)
-fits (Some f) x s h = (cc, cc)
-
-shape_ends : (tool : Tool) (project : List ℕ) (input : Input) (e : ShapeEnd) → Shapes (Err e) (shaped tool input)
-    → (t : Traces) → IsUntouched t → Ends (plan_of tool project input) t (end_of_shape e)
-shape_ends tool project input (Bad fault) s t u = record {
-  comes = answer_expected (plan_of tool project input) (Shape fault)
-      (ap (λ f. unless_fault f (record { project = project; tool = tool; input = input })) (is_fault (shape_fault tool input) (tool_system tool input) fault s));
-  leaves = u;
-}
-shape_ends tool project input ShapeMemory s t u = memory_ends (plan_of tool project input) t u
-
-pub ends-shape : (tool : Tool) (project : List ℕ) (input : Input) (held : Option Files) (told : Option (List ℕ)) (e : ShapeEnd) (r : Result Totals End)
-    → Shapes (Err e) (shaped tool input) → IsErrAnd r (λ y. y ≡ end_of_shape e) → EndsOver (plan_of tool project input) held held told told (end_of r)
-ends-shape tool project input held told e r s err =
-    at_error (EndsOver (plan_of tool project input) held held told told) r (end_of_shape e) err
-    (over_same (plan_of tool project input) held held told (end_of_shape e) refl (shape_ends tool project input e s))
-
--- the plan of files that fit together
-plan_fits : (tool : Tool) (project : List ℕ) (input : Input) → shape_fault tool input ≡ None
-    → plan_of tool project input ≡ Ok (record { project = project; tool = tool; input = input })
-plan_fits tool project input is = ap (λ f. unless_fault f (record { project = project; tool = tool; input = input })) is
-
-module _ (tool : Tool) (project : List ℕ) (input : Input) (well : shape_fault tool input ≡ None) where
+module _ (tool : Tool) (project : List ℕ) (input : Input) where
   abbrev the_plan : Plan
   the_plan = record { project = project; tool = tool; input = input }
-
-  planned_over : (held new : Option Files) (told tells : Option (List ℕ)) (e : End) → EndsOver (Ok the_plan) held new told tells e
-      → EndsOver (plan_of tool project input) held new told tells e
-  planned_over held new told tells e ends = subst (λ p. EndsOver p held new told tells e) (sym (plan_fits tool project input well)) ends
 
   -- ---- the run was stopped, and nothing was written
   run_ends : (e : RunEnd) → IfSome (end_of_error e) (RunComesTo the_plan) → (t : Traces) → IsUntouched t → Ends (Ok the_plan) t (end_of_run e)
@@ -161,17 +130,17 @@ module _ (tool : Tool) (project : List ℕ) (input : Input) (well : shape_fault 
 
   pub ends-run : (held : Option Files) (told : Option (List ℕ)) (e : RunEnd) (r : Result Totals End) (S : ToolSystem) → S ≡ tool_system tool input
       → IfSome (end_of_error e) (RunEnds S.equations default_limits) → IsErrAnd r (λ y. y ≡ end_of_run e)
-      → EndsOver (plan_of tool project input) held held told told (end_of r)
+      → EndsOver (Ok the_plan) held held told told (end_of r)
   ends-run held told e r S is ends err =
       let s : IfSome (end_of_error e) (RunComesTo the_plan) = subst (λ T. IfSome (end_of_error e) (RunEnds T.equations default_limits)) is ends in
-      at_error (EndsOver (plan_of tool project input) held held told told) r (end_of_run e) err
-      (planned_over held held told told (end_of_run e) (over_same (Ok the_plan) held held told (end_of_run e) refl (run_ends e s)))
+      at_error (EndsOver (Ok the_plan) held held told told) r (end_of_run e) err
+      (over_same (Ok the_plan) held held told (end_of_run e) refl (run_ends e s))
 
   pub ends-memory : (held : Option Files) (told : Option (List ℕ)) (r : Result Totals End) → IsErrAnd r (λ y. y ≡ Memory)
-      → EndsOver (plan_of tool project input) held held told told (end_of r)
+      → EndsOver (Ok the_plan) held held told told (end_of r)
   ends-memory held told r err =
-      at_error (EndsOver (plan_of tool project input) held held told told) r Memory err
-      (planned_over held held told told Memory (over_same (Ok the_plan) held held told Memory refl (memory_ends (Ok the_plan))))
+      at_error (EndsOver (Ok the_plan) held held told told) r Memory err
+      (over_same (Ok the_plan) held held told Memory refl (memory_ends (Ok the_plan)))
 
   -- ---- the writing was cut
   -- what holds of the output files holds of the one that was cut
@@ -206,9 +175,9 @@ module _ (tool : Tool) (project : List ℕ) (input : Input) (well : shape_fault 
     cut_over (Some files) new told e h = cut_ends files new told e h
 
     pub ends-cut : (held new : Option Files) (told : Option (List ℕ)) (e : End) (r : Result Totals End) → CutsTo project outputs held new e
-        → IsErrAnd r (λ y. y ≡ e) → EndsOver (plan_of tool project input) held new told told (end_of r)
+        → IsErrAnd r (λ y. y ≡ e) → EndsOver (Ok the_plan) held new told told (end_of r)
     ends-cut held new told e r h err =
-        at_error (EndsOver (plan_of tool project input) held new told told) r e err (planned_over held new told told e (cut_over held new told e h))
+        at_error (EndsOver (Ok the_plan) held new told told) r e err (cut_over held new told e h)
 
     -- ---- all is written, and the summary was put or cut
     told_ends : (files : Files) (new : Option Files) (told tells : Option (List ℕ)) (r : Result Totals End) → new ≡ Some (written_all project outputs files)
@@ -240,8 +209,8 @@ module _ (tool : Tool) (project : List ℕ) (input : Input) (well : shape_fault 
     told_over (Some files) new told tells r whole h = told_ends files new told tells r whole h
 
     pub ends-told : (held new : Option Files) (told tells : Option (List ℕ)) (r : Result Totals End) → new ≡ option_map (written_all project outputs) held
-        → TellsOf outputs used told tells r → EndsOver (plan_of tool project input) held new told tells (end_of r)
-    ends-told held new told tells r whole h = planned_over held new told tells (end_of r) (told_over held new told tells r whole h)
+        → TellsOf outputs used told tells r → EndsOver (Ok the_plan) held new told tells (end_of r)
+    ends-told held new told tells r whole h = told_over held new told tells r whole h
 
 -- ---- what standard output has gained
 pub tells-told : (outputs : List OutputFile) (used : ℕ) (told tells : Option (List ℕ)) (r : Result Totals End) → TellsOf outputs used told tells r → Tells told tells (end_of r)

@@ -1,4 +1,3 @@
-pub mod Pieces
 pub mod Cuts
 pub mod Conclusions
 pub mod Wanted

@@ -3,6 +3,7 @@ use Rattle.std.specs.Prelude.{◌≡◌, ◌⊎◌, ℕ, List, [], ◌∷◌, Op
 use Rattle.std.specs.Option.{option_map}
 use Rattle.std.specs.Io.KnownBytes.{append_known}
 use Rattle.outside.specs.Files.{Files}
+use Rattle.outside.specs.Pieces.{MayPut}
 use Rattle.solution_files.specs.Outputs.{written, MayWrite}
 use Rattle.tool_top.specs.declared.ends.Part.{Part}
 use Rattle.tool_top.specs.declared.ends.Part.TheVariants.{Gra, Hil, Zhom, Zinhom, Out}
@@ -12,7 +13,7 @@ use Rattle.tool_top.specs.Names.{file_name}
 use Rattle.tool_top.specs.Plan.{Plan}
 use Rattle.tool_top.specs.Outputs.{OutputFile, AreOutputs, HasWritten, written_all, rows_in}
 use Rattle.tool_top.specs.Expected.{FinishesWith}
-use Rattle.tool_top.specs.Summary.{summary_of, MayPut}
+use Rattle.tool_top.specs.Summary.{summary_of}
 
 -- what a run found and what it left: the files, and the bytes of standard output
 pub record Traces : Type 0 where

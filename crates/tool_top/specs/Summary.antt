@@ -1,23 +1,15 @@
 -- The summary on standard output, and the exit status.
-use Rattle.std.specs.Prelude.{◌≡◌, ◌⊎◌, ℕ, List, ◌∷◌, [], take, Option, codes, decimal}
-use Rattle.std.specs.List.{flat_map}
+use Rattle.std.specs.Prelude.{◌≡◌, ◌⊎◌, ℕ, List, ◌∷◌, [], Option, codes, decimal}
 use Rattle.std.specs.Io.KnownBytes.{append_known}
+use Rattle.outside.specs.Pieces.{MayPut, text_of_parts}
 use Rattle.tool_top.specs.declared.ends.Part.TheVariants.{Out}
 use Rattle.tool_top.specs.declared.ends.End.{End}
 use Rattle.tool_top.specs.declared.ends.End.TheVariants.{Done, Usage, Overflow, Pairs, Rows, Outside, Memory}
-
--- the parts, one after another
-abbrev pub text_of_parts : List (List ℕ) → List ℕ
-text_of_parts parts = flat_map (λ p. p) parts
 
 -- the line of the two numbers
 abbrev pub summary_of : ℕ → ℕ → List ℕ
 summary_of solutions pairs =
     text_of_parts (decimal solutions ∷ codes " solutions, " ∷ decimal pairs ∷ codes " pairs\n" ∷ [])
-
--- a prefix of the text was put
-abbrev pub MayPut : List ℕ → Option (List ℕ) → Option (List ℕ) → Type 0
-MayPut text old new = (k : ℕ) × (new ≡ append_known old (take k text))
 
 -- a prefix of some summary was put
 abbrev pub MayTell : Option (List ℕ) → Option (List ℕ) → Type 0

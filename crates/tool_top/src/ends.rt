@@ -3,13 +3,15 @@
 ghost use Rattle.std.specs.Prelude.{◌≡◌};
 ghost use Rattle.tool_top.specs.declared.ends.End.TheVariants.{Memory};
 ghost use Rattle.tool_top.specs.Summary.{code_of};
+ghost use Rattle.tool_top.specs.Plan.{part_of, answer_of};
 ghost use Rattle.tool_top.specs.Inside.Ends.{end_at, end_of};
 
 use lift_run::{Place, RunEnd};
 use mat_files::TextFault;
 use outside::PutEnd;
 use std::alloc::AllocError;
-use system_shape::{ShapeEnd, ShapeFault};
+use system_files::{FileFault, InputFault, InputStop, Source};
+use system_shape::ShapeFault;
 
 /// A file of a project, by its ending, or standard output.
 #[derive(Clone, Copy, Debug, PartialEq, Eq)]
@@ -22,6 +24,8 @@ pub enum Part {
     Rel,
     /// `.rhs`, the right sides.
     Rhs,
+    /// `.cap`, the caps of the columns.
+    Cap,
     /// `.lat`, a lattice basis, which is not supported.
     Lat,
     /// `.lb`, lower bounds, which are not supported.
@@ -92,15 +96,45 @@ impl From<AllocError> for End {
     }
 }
 
-impl From<ShapeEnd> for End {
-    ghost use Rattle.tool_top.specs.Inside.Ends.{end_of_shape};
+// An input file, as a part of the project.
+fn part_of(source: Source) -> Part
+    ensures { result ≡ part_of source }
+{
+    match source {
+        Source::Mat => Part::Mat,
+        Source::Sign => Part::Sign,
+        Source::Rel => Part::Rel,
+        Source::Rhs => Part::Rhs,
+        Source::Cap => Part::Cap,
+        Source::Lat => Part::Lat,
+        Source::Lb => Part::Lb,
+        Source::Ub => Part::Ub,
+    }
+}
 
-    ghost from_gives = { λ shape end. end ≡ end_of_shape shape };
+// The answer to a fault of the files.
+fn answer_of(fault: InputFault) -> End
+    ensures { result ≡ answer_of fault }
+{
+    match fault {
+        InputFault::File(source, FileFault::Missing) => End::Missing(part_of(source)),
+        InputFault::File(source, FileFault::TooLong { .. }) => End::TooLong(part_of(source)),
+        InputFault::File(source, FileFault::Text(fault)) => End::Text(part_of(source), fault),
+        InputFault::Refused(source) => End::Refused(part_of(source)),
+        InputFault::Shape(fault) => End::Shape(fault),
+    }
+}
 
-    fn from(refused: ShapeEnd) -> End {
-        match refused {
-            ShapeEnd::Bad(fault) => End::Shape(fault),
-            ShapeEnd::Memory => End::Memory,
+impl From<InputStop> for End {
+    ghost use Rattle.tool_top.specs.Inside.Ends.{end_of_stop};
+
+    ghost from_gives = { λ stop end. end ≡ end_of_stop stop };
+
+    fn from(stopped: InputStop) -> End {
+        match stopped {
+            InputStop::Bad(fault) => answer_of(fault),
+            InputStop::Failed(source) => End::Outside(part_of(source)),
+            InputStop::Memory => End::Memory,
         }
     }
 }

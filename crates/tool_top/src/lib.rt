@@ -6,7 +6,6 @@
 #![tactic(auto)]
 
 mod ends;
-mod inputs;
 mod names;
 mod outputs;
 mod program;

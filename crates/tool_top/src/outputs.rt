@@ -11,7 +11,7 @@ ghost use Rattle.tool_top.specs.Outputs.{file_of, rows_in, norms_in, written_all
 ghost use Rattle.tool_top.specs.Inside.Writing.{output_of, outputs_of, IsWantedBy, AreFilesOf, CutsTo};
 
 use crate::ends::refused_at;
-use crate::names::name;
+use crate::names::ending;
 use crate::{End, Part};
 use lift_core::Tool;
 use mat_files::Grid;
@@ -19,6 +19,7 @@ use outside::Folder;
 use solution_files::{Kind, select, write_grid};
 use stage_store::Finish;
 use std::alloc::{AllocError, Global};
+use system_files::file_name;
 
 // An output file with its rows.
 #[derive(Drop)]
@@ -120,7 +121,7 @@ fn write_output<F: Folder>(
     ensures later { F.faults folder.old ≤ F.faults folder.new }
     ensures cause { (p : Part) → result ≡ Err (End.Outside p) → Rose (F.faults folder.old) (F.faults folder.new) }
 {
-    let name = name(alloc, project, output.part)?;
+    let name = file_name(alloc, project, ending(output.part))?;
     match write_grid(alloc, folder, name.as_str(), &output.grid) {
         Ok(()) => Ok(()),
         Err(refused) => Err(refused_at(output.part, refused)),

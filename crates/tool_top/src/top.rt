@@ -1,9 +1,10 @@
 //! The top call.
 
-ghost use Rattle.std.specs.Prelude.{◌≡◌, ◌≢◌, ◌⊎◌, ◌↔◌, ◌≤◌, None, IfSome, IsOkAnd, vec_len};
+ghost use Rattle.std.specs.Prelude.{◌≡◌, ◌≢◌, ◌⊎◌, ◌↔◌, ◌≤◌, None, IfSome, Ok, IsOkAnd, vec_len};
 ghost use Rattle.outside.specs.Causes.{Rose};
+ghost use Rattle.system_files.specs.Inputs.{IsShaped};
 ghost use Rattle.tool_top.specs.Names.{project_in};
-ghost use Rattle.tool_top.specs.Plan.{planned, plan_of};
+ghost use Rattle.tool_top.specs.Plan.{planned};
 ghost use Rattle.tool_top.specs.Outputs.{HasWritten};
 ghost use Rattle.tool_top.specs.Expected.{ComesTo, IsExpected, OnDone};
 ghost use Rattle.tool_top.specs.Summary.{Tells, code_of};
@@ -12,7 +13,6 @@ ghost use Rattle.tool_top.specs.Inside.Ends.{Ends, end_of, HasSinkCause};
 ghost use Rattle.tool_top.specs.Inside.Writing.{outputs_of, TellsOf};
 
 use crate::ends::{Totals, code, refused_at, settle};
-use crate::inputs::read_input;
 use crate::names::project;
 use crate::outputs::{Outputs, count_rows, norm_total, select_outputs, write_outputs};
 use crate::summary::put_summary;
@@ -21,7 +21,7 @@ use lift_core::Tool;
 use lift_run::{Limits, run_system};
 use outside::{Folder, Sink, Words};
 use std::alloc::Global;
-use system_shape::{Input, shape};
+use system_files::{Shaped, read_shaped};
 
 // Puts the summary of outputs that are written, and gives their numbers.
 fn tell<O: Sink>(out: &mut O, outputs: &Outputs, pairs: u64) -> Result<Totals, End>
@@ -40,18 +40,18 @@ fn tell<O: Sink>(out: &mut O, outputs: &Outputs, pairs: u64) -> Result<Totals, E
     }
 }
 
-// Shapes and solves the system of a project, writes the output files, and tells the summary.
+// Solves the system of a project, writes the output files, and tells the summary.
 fn carry_out<F: Folder, O: Sink>(
     alloc: Global,
     tool: Tool,
     project: &str,
-    input: &Input,
+    shaped: Shaped,
     folder: &mut F,
     out: &mut O,
 ) -> Result<Totals, End>
-    requires rows { input.now.mat.rows ≤ 64 }
-    requires cols { input.now.mat.cols ≤ 64 }
-    ensures ends { IfSome (F.held folder.old) (λ files. Ends (plan_of tool project.now input.now)
+    requires { IsShaped tool shaped.input shaped.system }
+    ensures ends { IfSome (F.held folder.old) (λ files.
+        Ends (Ok (record { project = project.now; tool = tool; input = shaped.input }))
         (record { files_before = files; files_after = F.held folder.new; out_before = O.held out.old; out_after = O.held out.new })
         (end_of result)) }
     ensures tells { Tells (O.held out.old) (O.held out.new) (end_of result) }
@@ -60,12 +60,11 @@ fn carry_out<F: Folder, O: Sink>(
         → Rose (F.faults folder.old) (F.faults folder.new) }
     ensures out_fault { end_of result ≡ End.Outside Part.Out → Rose (O.faults out.old) (O.faults out.new) }
 {
-    let system = shape(alloc, tool, input)?;
     let limits = Limits {
         pairs: Limits::DEFAULT_PAIRS,
         rows: Limits::DEFAULT_ROWS,
     };
-    let finish = run_system(alloc, system, limits)?;
+    let finish = run_system(alloc, shaped.system, limits)?;
     let outputs = select_outputs(alloc, &finish)?;
     write_outputs(alloc, folder, project, &outputs)?;
     tell(out, &outputs, finish.pairs)
@@ -91,8 +90,8 @@ fn attempt<F: Folder, O: Sink>(
     let Some(project) = project(words) else {
         return Err(End::Usage);
     };
-    let input = read_input(alloc, folder, project)?;
-    carry_out(alloc, tool, project, &input, folder, out)
+    let shaped = read_shaped(alloc, tool, folder, project)?;
+    carry_out(alloc, tool, project, shaped, folder, out)
 }
 
 /// Does all that a command does: reads the project's files from `folder`, solves the system that they say, writes its

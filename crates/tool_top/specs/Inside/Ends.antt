@@ -5,13 +5,13 @@ use Rattle.outside.specs.declared.ends.PutEnd.{PutEnd}
 use Rattle.outside.specs.declared.ends.PutEnd.TheVariants.{Failed, Memory as PutMemory}
 use Rattle.lift_run.specs.declared.ends.RunEnd.{RunEnd}
 use Rattle.lift_run.specs.declared.ends.RunEnd.TheVariants.{Overflow as RunOverflow, Pairs as RunPairs, Rows as RunRows, Memory as RunMemory}
-use Rattle.system_shape.specs.declared.faults.ShapeEnd.{ShapeEnd}
-use Rattle.system_shape.specs.declared.faults.ShapeEnd.TheVariants.{Bad, Memory as ShapeMemory}
+use Rattle.system_files.specs.declared.faults.InputStop.{InputStop}
+use Rattle.system_files.specs.declared.faults.InputStop.TheVariants as stop
 use Rattle.tool_top.specs.declared.ends.Part.{Part}
 use Rattle.tool_top.specs.declared.ends.End.{End}
-use Rattle.tool_top.specs.declared.ends.End.TheVariants.{Done, Shape, Overflow, Pairs, Rows, Outside, Memory}
+use Rattle.tool_top.specs.declared.ends.End.TheVariants.{Done, Overflow, Pairs, Rows, Outside, Memory}
 use Rattle.tool_top.specs.declared.ends.Totals.{Totals}
-use Rattle.tool_top.specs.Plan.{Plan}
+use Rattle.tool_top.specs.Plan.{Plan, part_of, answer_of}
 use Rattle.tool_top.specs.Expected.{ComesTo}
 use Rattle.tool_top.specs.Left.{Traces, Leaves}
 
@@ -20,9 +20,10 @@ abbrev pub end_at : Part → PutEnd → End
 end_at part Failed = Outside part
 end_at part PutMemory = Memory
 
-abbrev pub end_of_shape : ShapeEnd → End
-end_of_shape (Bad fault) = Shape fault
-end_of_shape ShapeMemory = Memory
+abbrev pub end_of_stop : InputStop → End
+end_of_stop (stop.Bad fault) = answer_of fault
+end_of_stop (stop.Failed source) = Outside (part_of source)
+end_of_stop stop.Memory = Memory
 
 abbrev pub end_of_run : RunEnd → End
 end_of_run (RunOverflow stage place) = Overflow stage place

@@ -1,7 +1,5 @@
 -- The outputs as the code holds them, and what their writing and telling leave.
 use Rattle.std.specs.Prelude.{◌≡◌, ℕ, ℤ, List, [], ◌∷◌, map, Option, Result, Ok, Err}
-use Rattle.std.specs.List.{flat_map}
-use Rattle.std.specs.Borrow.{Bor}
 use Rattle.std.specs.Io.KnownBytes.{append_known}
 use Rattle.outside.specs.Files.{Files}
 use Rattle.int_vector.specs.Vectors.{norm}
@@ -18,7 +16,8 @@ use Rattle.tool_top.specs.declared.ends.Totals.{Totals}
 use Rattle.tool_top.specs.declared.outputs.Output.{Output}
 use Rattle.tool_top.specs.declared.outputs.Outputs.{Outputs}
 use Rattle.tool_top.specs.Outputs.{OutputFile, file_of, rows_in, norms_in}
-use Rattle.tool_top.specs.Summary.{summary_of, MayPut}
+use Rattle.outside.specs.Pieces.{MayPut}
+use Rattle.tool_top.specs.Summary.{summary_of}
 use Rattle.tool_top.specs.Left.{IsCutAt}
 
 -- the rows that a tool selects from the minimal solutions of the linear system
@@ -51,10 +50,6 @@ abbrev pub CutsTo : List ℕ → List OutputFile → Option Files → Option Fil
 CutsTo project outputs old new (Outside part) = IsCutAt project outputs part old new
 CutsTo project outputs old new Memory = (part : Part) × IsCutAt project outputs part old new
 CutsTo project outputs old new end = ⊥
-
--- the pieces, one after another
-abbrev pub text_of_pieces : List (Bor (List ℕ)) → List ℕ
-text_of_pieces pieces = flat_map (λ p. p.now) pieces
 
 -- the summary of outputs that are written was put
 pub record IsTold (outputs : List OutputFile) (used : ℕ) (old new : Option (List ℕ)) (totals : Totals) : Type 0 where
