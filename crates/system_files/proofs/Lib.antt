@@ -1,0 +1,4 @@
+pub mod Cutting
+pub mod Negatives
+pub mod Kernels
+pub mod Bases
