@@ -60,7 +60,8 @@ fn graver(alloc: Global, signs: [i8; 3]) -> Result<System, AllocError>
 {
     let cells = Vec::from_slice(alloc, &[1, 2, 3])?;
     let signs = Vec::from_slice(alloc, &signs)?;
-    Ok(System::build(Tool::Graver, 3, 3, cells, signs))
+    let caps = Vec::from_slice(alloc, &[None; 3])?;
+    Ok(System::build(Tool::Graver, 3, 3, cells, signs, caps))
 }
 
 // The system of x = y for `zsolve`, with x0.
@@ -69,7 +70,8 @@ fn diagonal(alloc: Global) -> Result<System, AllocError>
 {
     let cells = Vec::from_slice(alloc, &[1, -1, 0])?;
     let signs = Vec::from_slice(alloc, &[1, 1, 1])?;
-    Ok(System::build(Tool::Zsolve, 2, 3, cells, signs))
+    let caps = Vec::from_slice(alloc, &[None, None, Some(1)])?;
+    Ok(System::build(Tool::Zsolve, 2, 3, cells, signs, caps))
 }
 
 fn finish(alloc: Global, input: Input) -> Result<Finish, AllocError>

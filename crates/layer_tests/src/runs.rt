@@ -35,7 +35,8 @@ fn of_rows(alloc: Global, n: u32, rows: &[i64]) -> Result<System, AllocError>
 {
     let rows = Vec::from_slice(alloc, rows)?;
     let signs = vec![in alloc; 1; n as usize]?;
-    Ok(System::build(Tool::Hilbert, n, n, rows, signs))
+    let caps = vec![in alloc; None; n as usize]?;
+    Ok(System::build(Tool::Hilbert, n, n, rows, signs, caps))
 }
 
 fn system(alloc: Global, input: Input) -> Result<System, AllocError> {
@@ -179,7 +180,8 @@ fn compared(rt: &impl Abort, tree: &Tree, pool: &Pool) -> u64
 fn few_rows_are_compared(rt: HostRuntime) -> Result<(), Fail> {
     let alloc = rt.alloc();
     let signs = Vec::from_slice(alloc, &[2; 18])?;
-    let system = System::build(Tool::Graver, 18, 18, sums_of_tables(alloc)?, signs);
+    let caps = Vec::from_slice(alloc, &[None; 18])?;
+    let system = System::build(Tool::Graver, 18, 18, sums_of_tables(alloc)?, signs, caps);
     let Ok(finish) = run_system(alloc, system, Limits::default()) else {
         panic!(&rt; "the run does not finish");
     };

@@ -1,18 +1,19 @@
 //! Inequalities as a system.
 
 use lift_core::{System, Tool};
-use mat_files::{read_grid, read_rel};
+use mat_files::{read_cap, read_grid, read_rel};
 use std::alloc::Global;
 use std::test::Fail;
 use system_shape::{Input, shape};
 
-// The points of x - y <= 2, -3 x + y <= 1, x + y >= 1.
+// The points of x - y <= 2, -3 x + y <= 1, x + y >= 1 with y at most 3.
 fn polygon(alloc: Global) -> Result<System, Fail> {
     let input = Input {
         mat: read_grid(alloc, b"3 2\n1 -1\n-3 1\n1 1\n", 64, 64)?,
         sign: Some(read_grid(alloc, b"1 2\n1 1\n", 64, 64)?),
         rel: Some(read_rel(alloc, b"1 3\n< < >\n", 64, 64)?),
         rhs: Some(read_grid(alloc, b"1 3\n2 1 1\n", 64, 64)?),
+        cap: Some(read_cap(alloc, b"1 2\n* 3\n", 64, 64)?),
     };
     Ok(shape(alloc, Tool::Zsolve, &input)?)
 }

@@ -10,7 +10,8 @@ use std::test::Fail;
 fn double(alloc: Global) -> Result<System, AllocError> {
     let rows = Vec::from_slice(alloc, &[1, -2])?;
     let signs = Vec::from_slice(alloc, &[1, 1])?;
-    Ok(System::build(Tool::Hilbert, 2, 2, rows, signs))
+    let caps = Vec::from_slice(alloc, &[None; 2])?;
+    Ok(System::build(Tool::Hilbert, 2, 2, rows, signs, caps))
 }
 
 // The first stage.

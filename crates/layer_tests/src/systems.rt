@@ -8,7 +8,8 @@ use std::test::Fail;
 fn half(alloc: Global) -> Result<System, AllocError> {
     let rows = Vec::from_slice(alloc, &[2, -1])?;
     let signs = Vec::from_slice(alloc, &[1, 1])?;
-    Ok(System::build(Tool::Zsolve, 1, 2, rows, signs))
+    let caps = Vec::from_slice(alloc, &[None, Some(1)])?;
+    Ok(System::build(Tool::Zsolve, 1, 2, rows, signs, caps))
 }
 
 // Whether the calls answer as for 2 x - x0 = 0.

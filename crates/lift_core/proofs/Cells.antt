@@ -3,11 +3,11 @@
 use Rattle.std.proofs.Common.{◌≡◌, ℕ, zero, suc, ◌+◌, ◌*◌, ◌/◌, ◌%◌, ◌<◌, ◌≤◌, List, [], ◌∷◌, ◌++◌, length, get_or, take, drop, refl, ap, ap₂, sym, ◌∙◌, arith, length-drop, length-take}
 use Rattle.std.proofs.lemmas.Nat.{div-add-mod'}
 use Rattle.std.proofs.Math.Nat.{div-le_of_le-mul, mul-div_cancel}
-use Rattle.std.specs.Prelude.{ℤ}
+use Rattle.std.specs.Prelude.{ℤ, Option}
 use Rattle.std.specs.List.{All}
 use Rattle.std.proofs.lemmas.List.{drop-drop, take-append-drop}
 use Rattle.std.proofs.lemmas.List.Elements.{All-cons, All-nil, All-take, All-drop}
-use Rattle.lift_core.specs.Systems.{InRange, IsSign, HasRoomForHome, IsToolSystem, rows_of, system_of}
+use Rattle.lift_core.specs.Systems.{InRange, IsSign, AreCaps, HasRoomForHome, IsToolSystem, rows_of, system_of}
 use Rattle.lift_core.specs.declared.Tool.{Tool}
 
 pub length-rows_of : (m w : ℕ) (cells : List ℤ) → length (rows_of m w cells) ≡ m
@@ -63,9 +63,10 @@ rows_of-entries P (suc m) w cells h =
 pub ruleset row_laws = (length-rows_of, rows_of-at)
 
 -- the system of these columns and entries is as every one is
-pub system_of-fits : (tool : Tool) (n : ℕ) (signs : List ℤ) (m : ℕ) (cells : List ℤ) → 1 ≤ n → n ≤ 64 → n ≤ length signs → length signs ≤ 129 → m ≤ 64
-    → length cells ≡ m * length signs → All InRange cells → All IsSign signs → HasRoomForHome tool n signs → IsToolSystem (system_of tool n signs m cells)
-system_of-fits tool n signs m cells some most columns wide few l range known home = record {
+pub system_of-fits : (tool : Tool) (n : ℕ) (signs : List ℤ) (caps : List (Option ℕ)) (m : ℕ) (cells : List ℤ) → 1 ≤ n → n ≤ 64 → n ≤ length signs → length signs ≤ 129 → m ≤ 64
+    → length cells ≡ m * length signs → All InRange cells → All IsSign signs → length caps ≡ length signs → AreCaps tool n caps → HasRoomForHome tool n signs
+    → IsToolSystem (system_of tool n signs caps m cells)
+system_of-fits tool n signs caps m cells some most columns wide few l range known as_many capped home = record {
   some_columns = some;
   most_columns = most;
   first_columns = columns;
@@ -74,7 +75,8 @@ system_of-fits tool n signs m cells some most columns wide few l range known hom
   row_lengths = rows_of-lengths m (length signs) cells l;
   entries = rows_of-entries InRange m (length signs) cells range;
   signs = known;
-  caps = refl;
+  cap_count = as_many;
+  caps = capped;
   home = home;
 }
 

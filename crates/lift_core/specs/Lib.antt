@@ -1,5 +1,6 @@
 pub mod Minimal
 pub mod Systems
+pub mod Capped
 pub mod Extended
 pub mod Lists
 pub mod Stages

@@ -5,6 +5,7 @@ use Rattle.std.specs.declared.option.Option.{Option}
 use Rattle.std.specs.declared.option.Option.TheVariants.{None, Some}
 use Rattle.std.specs.List.{All, AllZip, AllByRecursion}
 use Rattle.int_vector.specs.Vectors.{dot}
+pub use Rattle.int_vector.specs.Range.{InRange, IsCap}
 use Rattle.lift_core.specs.declared.Tool.{Tool}
 use Rattle.lift_core.specs.declared.Tool.TheVariants.{Graver, Hilbert, Zsolve}
 
@@ -51,19 +52,21 @@ pub record ToolSystem : Type 0 where
   pub n : ℕ
   pub equations : LinearSystem
 
--- from -(2^63-1) to 2^63-1
-abbrev pub InRange : ℤ → Type 0
-InRange x = nat_abs x ≤ 9223372036854775807
-
 -- the sign of a column: at least 0, at most 0, or free
 abbrev pub IsSign : ℤ → Type 0
 IsSign s = (s ≡ pos 1) ⊎ (s ≡ negsuc 0) ⊎ (s ≡ pos 2)
 
--- the caps of a tool's w columns: only the last column of zsolve, which stands for the right sides, has one
-abbrev pub caps_of : Tool → ℕ → List (Option ℕ)
-caps_of Graver w = replicate w None
-caps_of Hilbert w = replicate w None
-caps_of Zsolve w = replicate (w - 1) None ++ (Some 1 ∷ [])
+-- the caps of the w columns behind the user's: slacks have none, and the last column of zsolve, which stands for the
+-- right sides, has cap 1
+abbrev pub caps_behind : Tool → ℕ → List (Option ℕ)
+caps_behind Graver w = replicate w None
+caps_behind Hilbert w = replicate w None
+caps_behind Zsolve w = replicate (w - 1) None ++ (Some 1 ∷ [])
+
+-- the caps of all columns, n of which are the user's
+pub record AreCaps (tool : Tool) (n : ℕ) (caps : List (Option ℕ)) : Type 0 where
+  pub known : All IsCap caps
+  pub behind : drop n caps ≡ caps_behind tool (length caps - n)
 
 -- the first m rows of w entries each
 abbrev pub rows_of : ℕ → ℕ → List ℤ → List (List ℤ)
@@ -71,11 +74,11 @@ rows_of zero w cells = []
 rows_of (suc m) w cells = take w cells ∷ rows_of m w (drop w cells)
 
 -- the system whose m rows stand in the entries one after another
-abbrev pub system_of : Tool → ℕ → List ℤ → ℕ → List ℤ → ToolSystem
-system_of tool n signs m cells = record {
+abbrev pub system_of : Tool → ℕ → List ℤ → List (Option ℕ) → ℕ → List ℤ → ToolSystem
+system_of tool n signs caps m cells = record {
   tool = tool;
   n = n;
-  equations = record { signs = signs; caps = caps_of tool (length signs); rows = rows_of m (length signs) cells };
+  equations = record { signs = signs; caps = caps; rows = rows_of m (length signs) cells };
 }
 
 -- the last column of zsolve stands behind the n columns of the user's, and is at least 0
@@ -94,5 +97,6 @@ pub record IsToolSystem (T : ToolSystem) : Type 0 where
   pub row_lengths : All (λ r. length r ≡ width T.equations) T.equations.rows
   pub entries : All (λ r. All InRange r) T.equations.rows
   pub signs : All IsSign T.equations.signs
-  pub caps : T.equations.caps ≡ caps_of T.tool (width T.equations)
+  pub cap_count : length T.equations.caps ≡ width T.equations
+  pub caps : AreCaps T.tool T.n T.equations.caps
   pub home : HasRoomForHome T.tool T.n T.equations.signs

@@ -1,12 +1,14 @@
 //! A system of homogeneous equations over columns with signs and caps.
 
-ghost use Rattle.std.specs.Prelude.{◌≡◌, ◌↔◌, ◌+◌, ◌-◌, ◌*◌, ◌/◌, ◌%◌, ◌<◌, ◌≤◌, [], None, ℤ, pos, length, take, drop, IsTrue, IfOk, slice_index_or, All};
+ghost use Rattle.std.specs.Prelude.{◌≡◌, ◌↔◌, ◌+◌, ◌+ℤ◌, ◌-◌, ◌*◌, ◌/◌, ◌%◌, ◌<◌, ◌≤◌, [], None, ℤ, pos, length, take, drop, IsTrue, IfOk, slice_index_or, All};
 ghost use Rattle.std.specs.List.{AllZip, AllByRecursion};
 ghost use Rattle.int_vector.specs.Vectors.{norm, dot, add};
-ghost use Rattle.lift_core.specs.Systems.{width, row, HasSign, ObeysSigns, ObeysCaps, InRange, IsSign, IsToolSystem, HasRoomForHome, system_of};
+ghost use Rattle.lift_core.specs.Systems.{width, row, HasSign, IsCapped, ObeysSigns, ObeysCaps, InRange, IsSign, AreCaps, IsToolSystem, HasRoomForHome, system_of};
+ghost use Rattle.lift_core.specs.Capped.{capped_from};
 ghost use Rattle.lift_core.specs.Written.{home_of};
 
 use crate::Tool;
+use crate::capped::CappedColumns;
 use int_vector::dot;
 use std::alloc::{AllocError, Global};
 use std::marker::Model;
@@ -15,8 +17,9 @@ use std::marker::Model;
 /// alone, the column that stands for the right sides.
 ///
 /// It has 1 to 64 columns of the user's, at most 129 columns, at most 64 equations, entries from -(2^63-1) to 2^63-1,
-/// and for each column a sign: 1 (at least 0), -1 (at most 0) or 2 (free), as in a sign file of 4ti2. The last column
-/// of `zsolve` has sign 1 and cap 1; no other column has a cap. The rows lie one after another in one region.
+/// and for each column a sign: 1 (at least 0), -1 (at most 0) or 2 (free), as in a sign file of 4ti2. A column of the
+/// user's may have a cap, which bounds the absolute value; a slack has none, and the last column of `zsolve` has sign 1
+/// and cap 1. The rows lie one after another in one region.
 #[derive(Drop)]
 pub struct System {
     tool: Tool,
@@ -24,17 +27,22 @@ pub struct System {
     count: u32,
     cells: Vec<i64>,
     signs: Vec<i8>,
+    caps: Vec<Option<u64>>,
+    capped: CappedColumns,
 }
 
 impl Model for System {
     ghost use Rattle.std.specs.Prelude.{◌≡◌, ◌*◌, length};
     ghost use Rattle.lift_core.specs.Systems.{ToolSystem, IsToolSystem, system_of};
+    ghost use Rattle.lift_core.specs.Capped.{capped_from};
 
     ghost Value = { ToolSystem };
 
-    ghost view = { λ s. system_of s.tool s.n s.signs.items s.count s.cells.items };
+    ghost view = { λ s. system_of s.tool s.n s.signs.items s.caps.items s.count s.cells.items };
 
-    ghost invariant = { λ s. IsToolSystem (system_of s.tool s.n s.signs.items s.count s.cells.items) × (length s.cells.items ≡ s.count * length s.signs.items) };
+    ghost invariant = { λ s. IsToolSystem (system_of s.tool s.n s.signs.items s.caps.items s.count s.cells.items)
+        × (length s.cells.items ≡ s.count * length s.signs.items)
+        × (s.capped ≡ capped_from 0 s.caps.items) };
 }
 
 impl System {
@@ -95,10 +103,7 @@ impl System {
         requires { (1 ≤ j) × (j ≤ width self.now.equations) }
         ensures { result ≡ slice_index_or self.now.equations.caps (j - 1) None }
     {
-        match self.tool {
-            Tool::Zsolve if j as usize == self.signs.len() => Some(1),
-            _ => None,
-        }
+        self.caps[j as usize - 1]
     }
 
     /// Row k, numbered from 1, with an entry for each column.
@@ -133,36 +138,22 @@ impl System {
     }
 
     /// Whether v obeys the caps.
-    #[tactic(auto, using(crate::proofs::Caps::no_caps, crate::proofs::Caps::one_cap))]
     pub fn obeys_caps(&self, v: &[i64]) -> bool
         requires { length v.now ≡ width self.now.equations }
         ensures { IsTrue result ↔ ObeysCaps self.now.equations v.now }
     {
-        match self.tool {
-            Tool::Zsolve => v[self.signs.len() - 1].unsigned_abs() <= 1,
-            _ => true,
-        }
+        has_caps(&self.caps, v)
     }
 
     /// Whether the sum of two vectors obeys the caps.
     ///
-    /// It takes no sum of vectors: only the last column can have a cap, so its two entries decide.
-    #[tactic(auto, using(crate::proofs::Caps::sum_no_caps, crate::proofs::Caps::sum_one_cap))]
+    /// It takes no sum of vectors, and looks at the columns that have a cap alone.
     pub fn sum_obeys_caps(&self, u: &[i64], v: &[i64]) -> bool
         requires first { length u.now ≡ width self.now.equations }
         requires second { length v.now ≡ width self.now.equations }
         ensures { IsTrue result ↔ ObeysCaps self.now.equations (add u.now v.now) }
     {
-        match self.tool {
-            Tool::Zsolve => {
-                let last = self.signs.len() - 1;
-                match u[last].checked_add(v[last]) {
-                    Some(sum) => sum.unsigned_abs() <= 1,
-                    None => false,
-                }
-            }
-            _ => true,
-        }
+        sum_has_caps(self.capped.places(), &self.caps, u, v)
     }
 
     /// Whether each of the rows 1 to k times v is 0. It does not ask for signs and caps.
@@ -201,21 +192,31 @@ impl System {
     }
 
     /// The system with these equations, whose coefficients stand in `rows` one equation after another, and with a sign
-    /// for each column. It takes both vectors over, and no memory.
-    pub fn build(tool: Tool, n: u32, width: u32, rows: Vec<i64>, signs: Vec<i8>) -> System
+    /// and a cap, or none, for each column. It takes the vectors over, and no memory.
+    pub fn build(
+        tool: Tool,
+        n: u32,
+        width: u32,
+        rows: Vec<i64>,
+        signs: Vec<i8>,
+        caps: Vec<Option<u64>>,
+    ) -> System
         requires columns { (1 ≤ n) × (n ≤ 64) × (n ≤ width) × (width ≤ 129) }
         requires lengths { (length signs.items ≡ width) × (length rows.items % width ≡ 0) × (length rows.items ≤ 64 * width) }
         requires range { All InRange rows.items }
         requires signs { All IsSign signs.items }
+        requires caps { (length caps.items ≡ width) × AreCaps tool n caps.items }
         requires home { HasRoomForHome tool n signs.items }
-        ensures { result ≡ system_of tool n signs.items (length rows.items / width) rows.items }
+        ensures { result ≡ system_of tool n signs.items caps.items (length rows.items / width) rows.items }
     {
         System {
             tool,
             n,
             count: (rows.len() / width as usize) as u32,
+            capped: CappedColumns::of(&caps),
             cells: rows,
             signs,
+            caps,
         }
     }
 
@@ -229,6 +230,8 @@ impl System {
             count: self.count,
             cells: Vec::from_slice(alloc, &self.cells)?,
             signs: Vec::from_slice(alloc, &self.signs)?,
+            caps: Vec::from_slice(alloc, &self.caps)?,
+            capped: CappedColumns::of(&self.caps),
         })
     }
 
@@ -240,10 +243,13 @@ impl System {
     }
 
     fn same_columns(&self, other: &System) -> bool
-        ensures same { IsTrue result ↔ ((self.now.tool ≡ other.now.tool) × (self.now.n ≡ other.now.n) × (self.now.equations.signs ≡ other.now.equations.signs)) }
-        ensures caps { IsTrue result → self.now.equations.caps ≡ other.now.equations.caps }
+        ensures { IsTrue result ↔ ((self.now.tool ≡ other.now.tool) × (self.now.n ≡ other.now.n)
+            × (self.now.equations.signs ≡ other.now.equations.signs) × (self.now.equations.caps ≡ other.now.equations.caps)) }
     {
-        self.tool == other.tool && self.n == other.n && same_signs(&self.signs, &other.signs)
+        self.tool == other.tool
+            && self.n == other.n
+            && same_signs(&self.signs, &other.signs)
+            && same_caps(&self.caps, &other.caps)
     }
 
     fn same_rows(&self, other: &System) -> bool
@@ -278,4 +284,61 @@ fn same_signs(signs: &[i8], others: &[i8]) -> bool
     ensures { IsTrue result ↔ (signs.now ≡ others.now) }
 {
     signs == others
+}
+
+// whether the caps are the same
+fn same_caps(caps: &[Option<u64>], others: &[Option<u64>]) -> bool
+    ensures { IsTrue result ↔ (caps.now ≡ others.now) }
+{
+    caps == others
+}
+
+// whether the absolute value is at most the cap, where there is one
+fn is_capped(cap: Option<u64>, x: i64) -> bool
+    ensures { IsTrue result ↔ IsCapped cap x }
+{
+    match cap {
+        Some(most) => x.unsigned_abs() <= most,
+        None => true,
+    }
+}
+
+// whether each entry is within its cap
+fn has_caps(caps: &[Option<u64>], v: &[i64]) -> bool
+    requires { length caps.now ≡ length v.now }
+    ensures { IsTrue result ↔ AllZip IsCapped caps.now v.now }
+{
+    for i in 0..caps.len() {
+        if !is_capped(caps[i], v[i]) {
+            return false;
+        }
+    }
+    true
+}
+
+// whether the sum of two entries is within the cap
+fn is_sum_capped(cap: Option<u64>, x: i64, y: i64) -> bool
+    ensures { IsTrue result ↔ IsCapped cap (x +ℤ y) }
+{
+    // the sum always has room in 128 bits
+    match cap {
+        Some(most) => (x as i128 + y as i128).unsigned_abs() <= most as u128,
+        None => true,
+    }
+}
+
+// whether each entry of the sum of two vectors is within its cap; those places alone have one
+fn sum_has_caps(places: &[u8], caps: &[Option<u64>], u: &[i64], v: &[i64]) -> bool
+    requires places { places.now ≡ capped_from 0 caps.now }
+    requires first { length u.now ≡ length caps.now }
+    requires second { length v.now ≡ length caps.now }
+    ensures { IsTrue result ↔ AllZip IsCapped caps.now (add u.now v.now) }
+{
+    for place in places {
+        let j = *place as usize;
+        if !is_sum_capped(caps[j], u[j], v[j]) {
+            return false;
+        }
+    }
+    true
 }

@@ -1,6 +1,7 @@
 //! Lifting of minimal solutions from one equation to the next: the definitions, their laws, and the system that is lifted.
 #![tactic(auto)]
 
+mod capped;
 mod entries;
 mod equations;
 pub mod laws;

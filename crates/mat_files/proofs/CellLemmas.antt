@@ -1,13 +1,15 @@
--- A word is read as a number exactly where it spells one in range, and as a relation exactly where it spells one.
-use Rattle.std.proofs.Common.{◌≡◌, Bool, true, false, cond, nat_le, Option, Some, None, Ok, Err, refl, sym, ap, subst, ◌∙◌}
+-- A word is read as a number or a cap exactly where it spells one in range, and as a relation exactly where it spells one.
+use Rattle.std.proofs.Common.{◌≡◌, ℕ, Bool, true, false, cond, nat_le, Option, Some, None, Ok, Err, refl, sym, ap, subst, ◌∙◌}
 use Rattle.std.proofs.lemmas.Bool.{leb-true, le-leb, cond-true}
 use Rattle.std.proofs.Math.IntN.{ℤ, nat_abs}
+use Rattle.int_vector.specs.Range.{IsCap}
 use Rattle.mat_files.specs.Words.{Word}
 use Rattle.mat_files.specs.Numbers.{number_value}
 use Rattle.mat_files.specs.Tables.{greatest}
 use Rattle.mat_files.specs.Matrices.{cell_at, in_range, IsSmall}
 use Rattle.std.specs.Prelude.{⊤}
 use Rattle.mat_files.specs.Relations.{relation_value, relation_at, found_relation}
+use Rattle.mat_files.specs.Caps.{cap_value, cap_at, cap_in_range}
 use Rattle.mat_files.specs.declared.relations.Rel.{Rel}
 use Rattle.mat_files.specs.declared.faults.TextFault.TheVariants.{OutOfRange}
 use Rattle.mat_files.proofs.GrammarLemmas.{ReadsCells}
@@ -33,4 +35,23 @@ pub reads_relations : ReadsCells relation_value (λ _. ⊤) relation_at
 reads_relations = record {
   only = λ w r e allowed. ap (found_relation w) e;
   found = λ w r e. (found_relation-back w (relation_value w.bytes) r e, tt);
+}
+
+cap_in_range-back : (w : Word) (o : Option (Option ℕ)) (x : Option ℕ) → cap_in_range w o ≡ Ok x → (o ≡ Some x) × IsCap x
+cap_in_range-back w None x e = cc
+cap_in_range-back w (Some None) x e = let same : None ≡ x = cc e in (ap Some same, subst IsCap same tt)
+cap_in_range-back w (Some (Some c)) x e = go (nat_le c greatest) refl e where
+  go : (t : Bool) → t ≡ nat_le c greatest → cond t (Ok (Some c)) (Err (OutOfRange w.at)) ≡ Ok x → (Some (Some c) ≡ Some x) × IsCap x
+  go true t f = let same : Some c ≡ x = cc f in (ap Some same, subst IsCap same (leb-true c greatest (sym t)))
+  go false t f = cc
+
+-- a cap in range passes
+cap_passes : (w : Word) (x : Option ℕ) → IsCap x → cap_in_range w (Some x) ≡ Ok x
+cap_passes w None small = refl
+cap_passes w (Some c) small = cond-true _ _ _ (le-leb c greatest small)
+
+pub reads_caps : ReadsCells cap_value IsCap cap_at
+reads_caps = record {
+  only = λ w x e small. ap (cap_in_range w) e ∙ cap_passes w x small;
+  found = λ w x e. cap_in_range-back w (cap_value w.bytes) x e;
 }

@@ -4,7 +4,8 @@ use Rattle.mat_files.specs.Words.{words_of}
 use Rattle.mat_files.specs.Numbers.{number_value, count_value}
 use Rattle.mat_files.specs.Matrices.{Matrix, matrix_of}
 use Rattle.mat_files.specs.declared.faults.TextFault.{TextFault}
-use Rattle.mat_files.specs.declared.faults.TextFault.TheVariants.{NotNumber, OutOfRange, Early, Extra, TooManyRows, TooManyCols, NoCols}
+use Rattle.mat_files.specs.Caps.{CapTable, cap_table_of}
+use Rattle.mat_files.specs.declared.faults.TextFault.TheVariants.{NotNumber, NotCap, OutOfRange, Early, Extra, TooManyRows, TooManyCols, NoCols}
 
 -- up to 64 rows and columns
 abbrev reading : List ℕ → Result Matrix TextFault
@@ -112,3 +113,31 @@ count_with_plus = refl
 
 words_and_places : words_of (codes " ab\tc\n") ≡ record { at = 1; bytes = codes "ab" } ∷ record { at = 4; bytes = codes "c" } ∷ []
 words_and_places = refl
+
+-- ---- caps
+caps : List ℕ → Result CapTable TextFault
+caps text = cap_table_of 64 64 text
+
+a_cap_and_none : caps (codes "1 3\n+0 * 9223372036854775807\n") ≡ Ok (record { rows = 1; cols = 3; cells = Some 0 ∷ None ∷ Some 9223372036854775807 ∷ [] })
+unfolding caps
+a_cap_and_none = refl
+
+negative_cap : caps (codes "1 2\n-1 *\n") ≡ Err (NotCap 4)
+unfolding caps
+negative_cap = refl
+
+missing_cap : caps (codes "1 2\n*\n") ≡ Err (Early 6)
+unfolding caps
+missing_cap = refl
+
+two_stars : caps (codes "1 1\n**") ≡ Err (NotCap 4)
+unfolding caps
+two_stars = refl
+
+bare_plus_as_cap : caps (codes "1 1\n+") ≡ Err (NotCap 4)
+unfolding caps
+bare_plus_as_cap = refl
+
+cap_too_large : caps (codes "1 1\n9223372036854775808") ≡ Err (OutOfRange 4)
+unfolding caps
+cap_too_large = refl

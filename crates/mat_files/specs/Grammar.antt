@@ -1,11 +1,13 @@
 -- Which texts spell a table, said without a reader.
 use Rattle.std.specs.Prelude.{◌≡◌, ◌≤◌, ◌*◌, ⊤, ℕ, List, ◌∷◌, length, map, Option, Some, Ok}
 use Rattle.std.specs.List.{AllByRecursion}
+use Rattle.int_vector.specs.Range.{IsCap}
 use Rattle.mat_files.specs.Words.{Word, words_of}
 use Rattle.mat_files.specs.Numbers.{number_value, count_value}
 use Rattle.mat_files.specs.Tables.{Table}
 use Rattle.mat_files.specs.Matrices.{Matrix, IsSmall, matrix_of}
 use Rattle.mat_files.specs.Relations.{Relations, relation_value}
+use Rattle.mat_files.specs.Caps.{CapTable, cap_value}
 
 -- The words are the count of rows, the count of columns and the cells row by row, and nothing else.
 pub record IsTableText {C : Type 0} (value : List ℕ → Option C) (text : List ℕ) (t : Table C) : Type 0 where
@@ -44,3 +46,11 @@ IsRelTextOf text m = IsTableText relation_value text m
 -- a matrix of relations within the limits; each relation may stand there
 abbrev pub IsRelWithin : ℕ → ℕ → Relations → Type 0
 IsRelWithin max_rows max_cols m = IsTableWithin (λ _. ⊤) max_rows max_cols m
+
+-- the text of a matrix of caps
+abbrev pub IsCapTextOf : List ℕ → CapTable → Type 0
+IsCapTextOf text m = IsTableText cap_value text m
+
+-- a matrix of caps within the limits, each cap in range
+abbrev pub IsCapWithin : ℕ → ℕ → CapTable → Type 0
+IsCapWithin max_rows max_cols m = IsTableWithin IsCap max_rows max_cols m

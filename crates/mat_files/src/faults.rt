@@ -11,7 +11,9 @@ pub enum TextFault {
     NotNumber { at: u64 },
     /// The word that begins here stands in a relation's place and is none.
     NotRelation { at: u64 },
-    /// The number that begins here has an absolute value above 2^63 - 1.
+    /// The word that begins here stands in a cap's place and is none.
+    NotCap { at: u64 },
+    /// The number or cap that begins here has an absolute value above 2^63 - 1.
     OutOfRange { at: u64 },
     /// The text ends here, and a word is missing.
     Early { at: u64 },

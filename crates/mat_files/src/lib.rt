@@ -5,6 +5,7 @@
 //! of absolute value at most 2^63 - 1.
 #![tactic(auto)]
 
+mod caps;
 mod faults;
 mod grid;
 mod numerals;
@@ -13,6 +14,7 @@ mod relations;
 mod scanning;
 mod tables;
 
+pub use caps::{CapGrid, read_cap};
 pub use faults::{TextEnd, TextFault};
 pub use grid::{Grid, read_grid};
 pub use printing::{print_grid, print_line};

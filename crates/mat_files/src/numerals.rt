@@ -4,6 +4,7 @@ ghost use Rattle.std.specs.Option.{option_map};
 ghost use Rattle.mat_files.specs.Numbers.{digits_value, number_value, count_value};
 ghost use Rattle.mat_files.specs.Tables.{count_at};
 ghost use Rattle.mat_files.specs.Matrices.{cell_at};
+ghost use Rattle.mat_files.specs.Caps.{cap_at};
 
 use crate::TextFault;
 use crate::scanning::TextWord;
@@ -79,5 +80,19 @@ pub(crate) fn count(word: &TextWord<'_>) -> Result<u64, TextFault>
         None => Err(TextFault::NotNumber { at: word.at }),
         Some(value) if value >= CAP => Err(TextFault::OutOfRange { at: word.at }),
         Some(value) => Ok(value),
+    }
+}
+
+/// The cap that a word stands for.
+pub(crate) fn cap(word: &TextWord<'_>) -> Result<Option<u64>, TextFault>
+    ensures { result ≡ cap_at (record { at = word.now.at; bytes = word.now.bytes.now }) }
+{
+    if let [b'*'] = word.bytes {
+        return Ok(None);
+    }
+    match capped_value(skip_plus(word.bytes)) {
+        None => Err(TextFault::NotCap { at: word.at }),
+        Some(value) if value >= CAP => Err(TextFault::OutOfRange { at: word.at }),
+        Some(value) => Ok(Some(value)),
     }
 }

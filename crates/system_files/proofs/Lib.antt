@@ -2,3 +2,4 @@ pub mod Cutting
 pub mod Negatives
 pub mod Kernels
 pub mod Bases
+pub mod Shaping

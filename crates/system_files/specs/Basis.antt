@@ -8,7 +8,7 @@ use Rattle.system_shape.specs.declared.files.Input.{Input}
 
 -- the matrix alone: no other files
 abbrev pub alone : Matrix → Input
-alone mat = record { mat = mat; sign = None; rel = None; rhs = None }
+alone mat = record { mat = mat; sign = None; rel = None; rhs = None; cap = None }
 
 -- the rows that `graver` writes for the matrix alone: the minimal nonzero vectors of its kernel, of each and its negative the one that leads positive
 abbrev pub IsGraverBasis : Matrix → List (List ℤ) → Type 0

@@ -1,10 +1,10 @@
 -- What the definitions compute to at small systems of known text.
-use Rattle.std.proofs.Common.{◌≡◌, List, [], ◌∷◌, refl, Some, None, Ok, Err}
+use Rattle.std.proofs.Common.{◌≡◌, ℕ, Option, length, List, [], ◌∷◌, refl, Some, None, Ok, Err}
 use Rattle.std.specs.Prelude.{ℤ, pos, negsuc}
 use Rattle.lift_core.specs.declared.Tool.TheVariants.{Graver, Hilbert, Zsolve}
 use Rattle.mat_files.specs.declared.relations.Rel.TheVariants.{Most, Least}
 use Rattle.system_shape.specs.declared.files.Input.{Input}
-use Rattle.system_shape.specs.declared.faults.ShapeFault.TheVariants.{SignNeeded, SignShape, BadSign, Free, RhsNotHere}
+use Rattle.system_shape.specs.declared.faults.ShapeFault.TheVariants.{SignNeeded, SignShape, BadSign, Free, RhsNotHere, CapShape}
 use Rattle.system_shape.specs.Shape.{shaped, shape_fault, user_system, full_vector}
 
 -- x - y ≤ 2, -3 x + y ≤ 1 and x + y ≤ 1 for x, y ≥ 0: a slack for each row, then the column of the right sides
@@ -14,6 +14,7 @@ polygon = record {
   sign = Some (record { rows = 1; cols = 2; cells = pos 1 ∷ pos 1 ∷ [] });
   rel = Some (record { rows = 1; cols = 3; cells = Most ∷ Most ∷ Least ∷ [] });
   rhs = Some (record { rows = 1; cols = 3; cells = pos 2 ∷ pos 1 ∷ pos 1 ∷ [] });
+  cap = None;
 }
 
 polygon_shaped : shaped Zsolve polygon ≡ Ok (record {
@@ -43,6 +44,7 @@ half = record {
   sign = Some (record { rows = 1; cols = 1; cells = pos 1 ∷ [] });
   rel = None;
   rhs = Some (record { rows = 1; cols = 1; cells = pos 1 ∷ [] });
+  cap = None;
 }
 
 half_shaped : shaped Zsolve half
@@ -57,6 +59,7 @@ below_diagonal = record {
   sign = None;
   rel = Some (record { rows = 1; cols = 1; cells = Most ∷ [] });
   rhs = None;
+  cap = None;
 }
 
 below_diagonal_shaped : shaped Hilbert below_diagonal
@@ -81,6 +84,7 @@ fault_at_signs signs = record {
   sign = Some (record { rows = 1; cols = 2; cells = signs });
   rel = None;
   rhs = None;
+  cap = None;
 }
 
 free_at_two : shape_fault Zsolve (fault_at_signs (pos 1 ∷ pos 0 ∷ [])) ≡ Some (Free 2)
@@ -98,6 +102,7 @@ one_sign = record {
   sign = Some (record { rows = 1; cols = 1; cells = pos 0 ∷ [] });
   rel = None;
   rhs = None;
+  cap = None;
 }
 
 shape_first : shape_fault Zsolve one_sign ≡ Some (SignShape 1 1)
@@ -110,8 +115,28 @@ with_rights = record {
   sign = None;
   rel = None;
   rhs = Some (record { rows = 1; cols = 1; cells = pos 0 ∷ [] });
+  cap = None;
 }
 
 rights_not_here : shape_fault Hilbert with_rights ≡ Some RhsNotHere
 unfolding with_rights
 rights_not_here = refl
+
+-- x - y ≤ 0 for hilbert with a cap of 3 on y: the slack has none
+boxed : List (Option ℕ) → Input
+boxed caps = record {
+  mat = record { rows = 1; cols = 2; cells = pos 1 ∷ negsuc 0 ∷ [] };
+  sign = None;
+  rel = Some (record { rows = 1; cols = 1; cells = Most ∷ [] });
+  rhs = None;
+  cap = Some (record { rows = 1; cols = length caps; cells = caps });
+}
+
+boxed_shaped : shaped Hilbert (boxed (None ∷ Some 3 ∷ []))
+    ≡ Ok (record { tool = Hilbert; n = 2; equations = record { signs = pos 1 ∷ pos 1 ∷ pos 1 ∷ []; caps = None ∷ Some 3 ∷ None ∷ []; rows = (pos 1 ∷ negsuc 0 ∷ pos 1 ∷ []) ∷ [] } })
+unfolding boxed
+boxed_shaped = refl
+
+one_cap_for_two : shape_fault Hilbert (boxed (Some 3 ∷ [])) ≡ Some (CapShape 1 1)
+unfolding boxed
+one_cap_for_two = refl

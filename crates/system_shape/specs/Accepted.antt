@@ -1,10 +1,10 @@
 -- What is true of files without a fault, and of the user's system that they give.
-use Rattle.std.specs.Prelude.{◌≡◌, ℕ, ◌*◌, ◌≤◌, List, ℤ, replicate, length, None}
+use Rattle.std.specs.Prelude.{◌≡◌, ℕ, ◌*◌, ◌≤◌, List, ℤ, length, Option}
 use Rattle.std.specs.List.{All, AllByRecursion}
-use Rattle.lift_core.specs.Systems.{InRange, IsSign}
+use Rattle.lift_core.specs.Systems.{InRange, IsCap, IsSign}
 use Rattle.lift_core.specs.declared.Tool.{Tool}
 use Rattle.system_shape.specs.declared.files.Input.{Input}
-use Rattle.system_shape.specs.Shape.{UserSystem, IsWellFormed, signs_of, relations_of, rights_of, has_home}
+use Rattle.system_shape.specs.Shape.{UserSystem, IsWellFormed, signs_of, relations_of, rights_of, given_caps, has_home}
 
 -- the signs of n columns
 pub record AreSigns (n : ℕ) (signs : List ℤ) : Type 0 where
@@ -16,7 +16,12 @@ pub record AreRights (m : ℕ) (rights : List ℤ) : Type 0 where
   pub count : length rights ≡ m
   pub small : AllByRecursion InRange rights
 
--- a matrix within the limits, with signs, relations and right sides that fit it
+-- the caps of n columns
+pub record AreUserCaps (n : ℕ) (caps : List (Option ℕ)) : Type 0 where
+  pub count : length caps ≡ n
+  pub known : All IsCap caps
+
+-- a matrix within the limits, with signs, relations, right sides and caps that fit it
 pub record AreFitting (tool : Tool) (input : Input) : Type 0 where
   pub entries : length input.mat.cells ≡ input.mat.rows * input.mat.cols
   pub some_columns : 1 ≤ input.mat.cols
@@ -26,12 +31,13 @@ pub record AreFitting (tool : Tool) (input : Input) : Type 0 where
   pub signs : AreSigns input.mat.cols (signs_of tool input.mat.cols input.sign)
   pub relations : length (relations_of input.mat.rows input.rel) ≡ input.mat.rows
   pub rights : AreRights input.mat.rows (rights_of input.mat.rows input.rhs)
+  pub caps : AreUserCaps input.mat.cols (given_caps input.mat.cols input.cap)
 
--- a user's system of 1 to 64 columns and at most 64 rows, with no caps, whose numbers are in range
+-- a user's system of 1 to 64 columns and at most 64 rows, whose numbers are in range
 pub record IsAccepted (tool : Tool) (U : UserSystem) : Type 0 where
   pub well : IsWellFormed U
   pub home : U.home ≡ has_home tool
-  pub caps : U.caps ≡ replicate (length U.signs) None
+  pub caps : All IsCap U.caps
   pub some_columns : 1 ≤ length U.signs
   pub most_columns : length U.signs ≤ 64
   pub most_rows : length U.rows ≤ 64

@@ -6,6 +6,7 @@ use Rattle.std.specs.List.{AllZip, AllByRecursion, find, enumerate_from}
 use Rattle.int_vector.specs.Vectors.{dot}
 use Rattle.mat_files.specs.Matrices.{Matrix}
 use Rattle.mat_files.specs.Relations.{Relations}
+use Rattle.mat_files.specs.Caps.{CapTable}
 use Rattle.mat_files.specs.declared.relations.Rel.{Rel}
 use Rattle.mat_files.specs.declared.relations.Rel.TheVariants.{Most, Least, Equal}
 use Rattle.lift_core.specs.Systems.{LinearSystem, ToolSystem, HasSign, IsCapped, rows_of}
@@ -13,7 +14,7 @@ use Rattle.lift_core.specs.declared.Tool.{Tool}
 use Rattle.lift_core.specs.declared.Tool.TheVariants.{Graver, Hilbert, Zsolve}
 use Rattle.system_shape.specs.declared.files.Input.{Input}
 use Rattle.system_shape.specs.declared.faults.ShapeFault.{ShapeFault}
-use Rattle.system_shape.specs.declared.faults.ShapeFault.TheVariants.{SignNeeded, SignShape, BadSign, Free, RelShape, RhsNotHere, RhsShape}
+use Rattle.system_shape.specs.declared.faults.ShapeFault.TheVariants.{SignNeeded, SignShape, BadSign, Free, RelShape, RhsNotHere, RhsShape, CapShape}
 use Rattle.system_shape.specs.declared.faults.ShapeEnd.{ShapeEnd}
 use Rattle.system_shape.specs.declared.faults.ShapeEnd.TheVariants.{Bad, Memory}
 
@@ -139,6 +140,11 @@ abbrev pub rights_of : ℕ → Option Matrix → List ℤ
 rights_of m (Some file) = file.cells
 rights_of m None = replicate m (pos 0)
 
+-- the caps of n columns, none of which has one where there is no file
+abbrev pub given_caps : ℕ → Option CapTable → List (Option ℕ)
+given_caps n (Some file) = file.cells
+given_caps n None = replicate n None
+
 abbrev pub relation_of : Rel → Relation
 relation_of Most = at_most
 relation_of Least = at_least
@@ -157,11 +163,10 @@ has_home Graver = false
 has_home Hilbert = false
 has_home Zsolve = true
 
--- no column of the user's has a cap
 abbrev pub user_system : Tool → Input → UserSystem
 user_system tool input = record {
   signs = signs_of tool input.mat.cols input.sign;
-  caps = replicate input.mat.cols None;
+  caps = given_caps input.mat.cols input.cap;
   rows = user_rows (rows_of input.mat.rows input.mat.cols input.mat.cells) (relations_of input.mat.rows input.rel) (rights_of input.mat.rows input.rhs);
   home = has_home tool;
 }
@@ -202,9 +207,16 @@ right_fault Graver m (Some file) = Some RhsNotHere
 right_fault Hilbert m (Some file) = Some RhsNotHere
 right_fault Zsolve m (Some file) = line_fault file.rows file.cols m (RhsShape file.rows file.cols)
 
--- the signs come first, then the relations, then the right sides
+abbrev pub cap_fault : ℕ → Option CapTable → Option ShapeFault
+cap_fault n (Some file) = line_fault file.rows file.cols n (CapShape file.rows file.cols)
+cap_fault n None = None
+
+-- the signs come first, then the relations, then the right sides, then the caps
 abbrev pub shape_fault : Tool → Input → Option ShapeFault
-shape_fault tool input = option_or (sign_fault tool input.mat.cols input.sign) (option_or (relation_fault input.mat.rows input.rel) (right_fault tool input.mat.rows input.rhs))
+shape_fault tool input =
+    option_or (sign_fault tool input.mat.cols input.sign)
+    (option_or (relation_fault input.mat.rows input.rel)
+    (option_or (right_fault tool input.mat.rows input.rhs) (cap_fault input.mat.cols input.cap)))
 
 -- ---- the system of a tool and its files
 abbrev pub tool_system : Tool → Input → ToolSystem

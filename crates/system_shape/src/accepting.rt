@@ -2,13 +2,13 @@
 
 ghost use Rattle.std.specs.Prelude.{◌≡◌, ◌≤◌, length, All, IfNone};
 ghost use Rattle.lift_core.specs.Systems.{IsSign};
-ghost use Rattle.system_shape.specs.Shape.{is_sign, fault_of_sign, column_fault, line_fault, sign_file_fault, sign_fault, relation_fault, right_fault, shape_fault, signs_of, relations_of, rights_of};
-ghost use Rattle.system_shape.specs.declared.faults.ShapeFault.TheVariants.{RelShape, RhsShape};
-ghost use Rattle.system_shape.specs.Accepted.{AreSigns, AreRights, AreFitting};
+ghost use Rattle.system_shape.specs.Shape.{is_sign, fault_of_sign, column_fault, line_fault, sign_file_fault, sign_fault, relation_fault, right_fault, cap_fault, shape_fault, signs_of, relations_of, rights_of, given_caps};
+ghost use Rattle.system_shape.specs.declared.faults.ShapeFault.TheVariants.{RelShape, RhsShape, CapShape};
+ghost use Rattle.system_shape.specs.Accepted.{AreSigns, AreRights, AreUserCaps, AreFitting};
 
 use crate::{Input, ShapeFault};
 use lift_core::Tool;
-use mat_files::{Grid, RelGrid};
+use mat_files::{CapGrid, Grid, RelGrid};
 
 // whether the entry is a sign
 fn is_sign(entry: i64) -> bool
@@ -136,6 +136,29 @@ fn right_fault(tool: Tool, m: u32, rhs: &Option<Grid>) -> Option<ShapeFault>
     }
 }
 
+// the fault of a file of caps for n columns
+fn cap_file_fault(n: u32, file: &CapGrid) -> Option<ShapeFault>
+    ensures fault { result ≡ line_fault file.now.rows file.now.cols n (CapShape file.now.rows file.now.cols) }
+    ensures accepted { IfNone result (AreUserCaps n file.now.cells) }
+{
+    let shape = ShapeFault::CapShape {
+        rows: file.rows,
+        cols: file.cols,
+    };
+    line_fault(file.rows, file.cols, n, shape)
+}
+
+// the fault of the caps of n columns
+fn cap_fault(n: u32, cap: &Option<CapGrid>) -> Option<ShapeFault>
+    ensures fault { result ≡ cap_fault n cap.now }
+    ensures accepted { IfNone result (AreUserCaps n (given_caps n cap.now)) }
+{
+    match cap {
+        Some(file) => cap_file_fault(n, file),
+        None => None,
+    }
+}
+
 /// The first fault of the files.
 pub(crate) fn shape_fault(tool: Tool, input: &Input) -> Option<ShapeFault>
     requires rows { input.now.mat.rows ≤ 64 }
@@ -150,5 +173,8 @@ pub(crate) fn shape_fault(tool: Tool, input: &Input) -> Option<ShapeFault>
     if let Some(fault) = relation_fault(mat.rows, &input.rel) {
         return Some(fault);
     }
-    right_fault(tool, mat.rows, &input.rhs)
+    if let Some(fault) = right_fault(tool, mat.rows, &input.rhs) {
+        return Some(fault);
+    }
+    cap_fault(mat.cols, &input.cap)
 }

@@ -1,11 +1,11 @@
-//! The signs of the columns.
+//! The signs and caps of the columns.
 
-ghost use Rattle.std.specs.Prelude.{◌≡◌, ◌++◌, ◌≤◌, ◌<◌, ℤ, pos, length, replicate, IfOk, All};
+ghost use Rattle.std.specs.Prelude.{◌≡◌, ◌++◌, ◌≤◌, ◌<◌, ℤ, ℕ, pos, None, length, replicate, IfOk, All};
 ghost use Rattle.lift_core.specs.Systems.{IsSign};
-ghost use Rattle.system_shape.specs.Shape.{signs_of, has_home, home_signs};
+ghost use Rattle.system_shape.specs.Shape.{signs_of, given_caps, has_home, home_signs, home_caps};
 
 use lift_core::Tool;
-use mat_files::Grid;
+use mat_files::{CapGrid, Grid};
 use std::alloc::{AllocError, Global};
 
 /// Whether the tool has a homogenising column.
@@ -73,4 +73,34 @@ pub(crate) fn column_signs(
         signs.push(1)?;
     }
     Ok(signs)
+}
+
+// the caps of the user's n columns
+fn user_caps(alloc: Global, n: u32, cap: &Option<CapGrid>) -> Result<Vec<Option<u64>>, AllocError>
+    ensures { IfOk result (λ v. v.items ≡ given_caps n cap.now) }
+{
+    match cap {
+        Some(file) => Vec::from_slice(alloc, &file.cells),
+        None => vec![in alloc; None; n as usize],
+    }
+}
+
+/// The caps of the user's n columns, of so many slack columns, which have none, and of the homogenising column.
+pub(crate) fn column_caps(
+    alloc: Global,
+    tool: Tool,
+    n: u32,
+    cap: &Option<CapGrid>,
+    slacks: usize,
+) -> Result<Vec<Option<u64>>, AllocError>
+    ensures { IfOk result (λ v. v.items ≡ given_caps n cap.now ++ (replicate slacks None ++ home_caps (has_home tool))) }
+{
+    let mut caps = user_caps(alloc, n, cap)?;
+    for _slack in 0..slacks {
+        caps.push(None)?;
+    }
+    if has_home(tool) {
+        caps.push(Some(1))?;
+    }
+    Ok(caps)
 }

@@ -6,7 +6,7 @@ ghost use Rattle.system_shape.specs.declared.faults.ShapeEnd.TheVariants.{Bad, M
 use std::alloc::{AllocError, AllocFailed};
 
 /// The first fault of the files that go with a matrix of m rows and n columns. The faults of the signs come first,
-/// those of the columns by column, then that of the relations, then those of the right sides.
+/// those of the columns by column, then that of the relations, then those of the right sides, then that of the caps.
 #[derive(Clone, Copy, Debug, PartialEq, Eq)]
 pub enum ShapeFault {
     /// The tool is `zsolve`, and there are no signs.
@@ -24,6 +24,8 @@ pub enum ShapeFault {
     RhsNotHere,
     /// The right sides are not 1 x m.
     RhsShape { rows: u32, cols: u32 },
+    /// The caps are not 1 x n.
+    CapShape { rows: u32, cols: u32 },
 }
 
 /// Why no system was made.

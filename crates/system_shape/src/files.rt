@@ -1,6 +1,6 @@
 //! The user's matrices.
 
-use mat_files::{Grid, RelGrid};
+use mat_files::{CapGrid, Grid, RelGrid};
 
 /// The matrices of a user's system (4ti2 user manual, "zsolve").
 #[derive(Drop)]
@@ -14,4 +14,7 @@ pub struct Input {
     pub rel: Option<RelGrid>,
     /// The right sides, in one row. Where there are none, each is 0.
     pub rhs: Option<Grid>,
+    /// The caps of the columns, in one row: each bounds the absolute value of its column. Where there are none, no column
+    /// has one.
+    pub cap: Option<CapGrid>,
 }

@@ -6,22 +6,29 @@ ghost use Rattle.system_shape.specs.Cells.{cells_from};
 ghost use Rattle.system_shape.specs.Accepted.{AreFitting};
 
 use crate::accepting::shape_fault;
-use crate::columns::{column_signs, has_home};
+use crate::columns::{column_caps, column_signs, has_home};
 use crate::equations::{equations, relations, right_sides, slack_columns};
 use crate::{Input, ShapeEnd};
 use lift_core::{System, Tool};
 use std::alloc::{AllocError, Global};
 
-// the system of these signs and entries
-fn assemble(tool: Tool, input: &Input, signs: Vec<i8>, entries: Vec<i64>) -> System
+// the system of these signs, caps and entries
+fn assemble(
+    tool: Tool,
+    input: &Input,
+    signs: Vec<i8>,
+    caps: Vec<Option<u64>>,
+    entries: Vec<i64>,
+) -> System
     requires fitting { AreFitting tool input.now }
     requires signs { signs.items ≡ (system_of (user_system tool input.now)).signs }
+    requires caps { caps.items ≡ (system_of (user_system tool input.now)).caps }
     requires entries { entries.items ≡ cells_from (has_home tool) 0 (user_system tool input.now).rows }
     ensures { result ≡ tool_system tool input.now }
 {
     let mat = &input.mat;
     let width = signs.len() as u32;
-    System::build(tool, mat.cols, width, entries, signs)
+    System::build(tool, mat.cols, width, entries, signs, caps)
 }
 
 // the system of files without a fault
@@ -34,8 +41,9 @@ fn accepted_system(alloc: Global, tool: Tool, input: &Input) -> Result<System, A
     let rights = right_sides(alloc, mat.rows, &input.rhs)?;
     let slacks = slack_columns(&relations);
     let signs = column_signs(alloc, tool, mat.cols, &input.sign, slacks)?;
+    let caps = column_caps(alloc, tool, mat.cols, &input.cap, slacks)?;
     let entries = equations(alloc, mat, &relations, &rights, has_home(tool))?;
-    Ok(assemble(tool, input, signs, entries))
+    Ok(assemble(tool, input, signs, caps, entries))
 }
 
 /// The system that the matrices stand for, for a tool.
@@ -44,6 +52,7 @@ fn accepted_system(alloc: Global, tool: Tool, input: &Input) -> Result<System, A
 /// `zsolve` alone the homogenising column. With s the row's slack and c the homogenising column, a row `a x <= b`
 /// becomes `a x + s - b c = 0`, a row `a x >= b` becomes `a x - s - b c = 0`, and a row `a x = b` becomes
 /// `a x - b c = 0`; the other tools have no right sides. Slacks and c are at least 0, and c is at most 1.
+/// A column of the matrix has the cap that the file of caps gives it, and a slack has none.
 ///
 /// # Errors
 /// `Bad` with the first fault of the files, and `Memory` where memory ran out.

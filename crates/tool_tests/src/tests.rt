@@ -461,7 +461,7 @@ const POLYGON: &[Text] = &[
     (".rhs", "1 3\n2 1 1\n"),
 ];
 
-// The second call of the folder reads the matrix, the ninth looks for `.lat`, and the twentieth appends the second row of
+// The second call of the folder reads the matrix, the tenth looks for `.lat`, and the twenty-first appends the second row of
 // the second file, of which half a line stands there then. The second put on standard output has the word behind the count.
 #[test]
 fn a_device_fault_is_named(rt: HostRuntime) -> Result<(), Fail> {
@@ -471,11 +471,11 @@ fn a_device_fault_is_named(rt: HostRuntime) -> Result<(), Fail> {
             ..refused(Tool::Zsolve, POLYGON, "5 Outside(Mat)")
         },
         Case {
-            failing: (&[9], &[]),
+            failing: (&[10], &[]),
             ..refused(Tool::Zsolve, POLYGON, "5 Outside(Lat)")
         },
         Case {
-            failing: (&[20], &[]),
+            failing: (&[21], &[]),
             ..done(
                 Tool::Zsolve,
                 POLYGON,

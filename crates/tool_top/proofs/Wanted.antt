@@ -1,5 +1,5 @@
 -- The output file of selected rows: its text, how many rows it has, and the sum of their norms.
-use Rattle.std.proofs.Common.{◌≡◌, ℕ, ◌+◌, List, [], ◌∷◌, ◌++◌, length, refl, ap, sym, ◌∙◌, subst, arith, None}
+use Rattle.std.proofs.Common.{◌≡◌, ℕ, ◌+◌, List, [], ◌∷◌, ◌++◌, length, refl, ap, sym, ◌∙◌, subst, arith}
 use Rattle.lift_core.specs.Systems.{ToolSystem}
 use Rattle.lift_core.specs.declared.Tool.{Tool}
 use Rattle.lift_core.specs.declared.Tool.TheVariants.{Graver, Hilbert, Zsolve}
@@ -12,7 +12,6 @@ use Rattle.system_shape.specs.declared.files.Input.{Input}
 use Rattle.system_shape.specs.Shape.{system_of, UserSystem}
 use Rattle.system_shape.specs.Solutions.{IsWrittenForUser, IsWantedForUser, IsWantedGraverForUser, HasKind}
 use Rattle.system_shape.proofs.Solutions.{written as written_for_user, same_list, same_pairs}
-use Rattle.std.proofs.lemmas.List.{length-replicate}
 use Rattle.solution_files.specs.Laws.{AreAllSolutions}
 use Rattle.solution_files.proofs.TextLemmas.{text_of-rows}
 use Rattle.solution_files.proofs.WantedLemmas.{wanted_plain, wanted_graver}
@@ -68,10 +67,7 @@ graver_for_user U n rows well e k h =
     (λ x. same_pairs (IsWrittenOf (system_of U) n Every) (IsWrittenForUser U Every) x (negated x) (IsTrue (leads_negative x) → ⊥) (written_for_user U well n Every x e k) (written_for_user U well n Every (negated x) e k))).0
     h
 
-module _ (tool : Tool) (input : Input) (formed : IsWellFormed (user_system tool input)) where
-  as_many : input.mat.cols ≡ length (user_system tool input).signs
-  as_many = sym (length-replicate input.mat.cols None) ∙ formed.caps
-
+module _ (tool : Tool) (input : Input) (formed : IsWellFormed (user_system tool input)) (as_many : input.mat.cols ≡ length (user_system tool input).signs) where
   pub user_files : (files : List OutputFile) → AreFilesOf tool (tool_system tool input) files → AreOutputsOf tool (user_system tool input) input.mat.cols files
   user_files = elim tool as (λ t. IsWellFormed (user_system t input) → input.mat.cols ≡ length (user_system t input).signs → (files : List OutputFile) → AreFilesOf t (tool_system t input) files → AreOutputsOf t (user_system t input) input.mat.cols files) [
     | Graver ↦ λ f n files h. (h.0, graver_for_user (user_system Graver input) input.mat.cols h.0 f n tt h.1, h.2)
@@ -90,7 +86,7 @@ pub wanted_outputs : (tool : Tool) (project : List ℕ) (input : Input) (S : Too
     → AreFilesOf T.tool T outputs → AreOutputs (record { project = project; tool = tool; input = input }) outputs
 wanted_outputs tool project input S shaped T outputs same files =
     let e : T ≡ tool_system tool input = same ∙ shaped.is in
-    user_files tool input shaped.formed outputs (subst (λ (U : ToolSystem). AreFilesOf U.tool U outputs) e files)
+    user_files tool input shaped.formed shaped.columns outputs (subst (λ (U : ToolSystem). AreFilesOf U.tool U outputs) e files)
 
 pub finishes_with : (tool : Tool) (project : List ℕ) (input : Input) (S : ToolSystem) → IsShaped tool input S → (rows : List (List ℤ)) (pairs : ℕ)
     → RunEnds S.equations default_limits (run_finished rows pairs) → FinishesWith (record { project = project; tool = tool; input = input }) pairs

@@ -1,10 +1,10 @@
 -- The system of files without a fault can be built of its signs and entries.
-use Rattle.std.proofs.Common.{◌≡◌, ◌≤◌, ℕ, ◌%◌, length, sym, ap, ap₂, subst, rules, ◌∙◌, arith}
+use Rattle.std.proofs.Common.{◌≡◌, ◌≤◌, ℕ, ◌%◌, length, sym, ap, ap₂, subst, subst₂, rules, ◌∙◌, arith}
 use Rattle.std.specs.List.{All}
-use Rattle.lift_core.specs.Systems.{ToolSystem, InRange, IsSign}
+use Rattle.lift_core.specs.Systems.{ToolSystem, InRange, IsSign, AreCaps}
 use Rattle.system_shape.specs.Shape.{user_system, system_of}
 use Rattle.system_shape.specs.Accepted.{IsAccepted}
-use Rattle.system_shape.proofs.Building.{fitting_accepted, first_columns, most_width, whole_rows, few_entries, entries_small, signs_known, built}
+use Rattle.system_shape.proofs.Building.{fitting_accepted, first_columns, most_width, whole_rows, few_entries, entries_small, signs_known, cap_count, caps_fit, built}
 use Rattle.system_shape.proofs.shaping.assemble.Goals as goal
 
 pub overflow_cast-width : goal.overflow_cast-width
@@ -51,6 +51,16 @@ build-requires-clause-signs c =
     let a : IsAccepted c.args.tool U = fitting_accepted c.args.tool c.args.input.now c.requires.fitting in
     subst (All IsSign) (sym c.requires.signs) (signs_known c.args.tool U a)
 
+pub build-requires-clause-caps : goal.build-requires-clause-caps
+build-requires-clause-caps c =
+    let U = user_system c.args.tool c.args.input.now in
+    let f = c.requires.fitting in
+    let a : IsAccepted c.args.tool U = fitting_accepted c.args.tool c.args.input.now f in
+    let w : c.len-width.result ≡ length c.args.signs.items = search rules in
+    let n : length U.signs ≡ c.mat.inside.cols = f.signs.count ∙ sym (ap (λ m. m.cols) c.mat.view_is) in
+    let count : length c.args.caps.items ≡ c.len-width.result = ap length c.requires.caps ∙ cap_count c.args.tool U a ∙ sym (w ∙ ap length c.requires.signs) in
+    (count, subst₂ (AreCaps c.args.tool) n (sym c.requires.caps) (caps_fit c.args.tool U a))
+
 pub returns : goal.returns
 returns c =
     let U = user_system c.args.tool c.args.input.now in
@@ -58,5 +68,5 @@ returns c =
     let w : c.len-width.result ≡ length c.args.signs.items = search rules in
     let as_tool : ℕ → ToolSystem = λ n. record { tool = c.args.tool; n = n; equations = system_of U } in
     c.build.ensures
-    ∙ built c.args.tool U a c.mat.inside.cols c.args.signs.items c.args.entries.items c.len-width.result c.requires.signs c.requires.entries w
+    ∙ built c.args.tool U a c.mat.inside.cols c.args.signs.items c.args.caps.items c.args.entries.items c.len-width.result c.requires.signs c.requires.caps c.requires.entries w
     ∙ ap as_tool (ap (λ m. m.cols) c.mat.view_is)

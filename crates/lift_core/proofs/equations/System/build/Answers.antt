@@ -11,4 +11,4 @@ invariant_of-result c =
     let l : length c.args.rows.items ≡ c.len.result / c.args.width * length c.args.signs.items =
     whole_rows (length c.args.rows.items) c.args.width q.lengths.1 ∙ ap₂ (λ n v. n / c.args.width * v) (sym e) w in
     let m : c.len.result / c.args.width ≤ 64 = few_rows c.len.result c.args.width (omega (arith, q.columns)) (omega (arith, q.lengths)) in
-    (system_of-fits c.args.tool c.args.n c.args.signs.items (c.len.result / c.args.width) c.args.rows.items q.columns.0 q.columns.1 (omega arith) (omega arith) m l q.range q.signs q.home, l)
+    (system_of-fits c.args.tool c.args.n c.args.signs.items c.args.caps.items (c.len.result / c.args.width) c.args.rows.items q.columns.0 q.columns.1 (omega arith) (omega arith) m l q.range q.signs (omega (arith, q.caps.0, w)) q.caps.1 q.home, l, search rules)
