@@ -1,5 +1,5 @@
 -- Texts that are put one after another: a refusal leaves a prefix of the whole.
-use Rattle.std.proofs.Common.{◌≡◌, ◌<◌, ◌≤◌, ◌+◌, ℕ, ℤ, min, List, [], ◌∷◌, ◌++◌, length, take, drop, get_or, Option, refl, ap, sym, subst, ◌∙◌, arith, append_assoc}
+use Rattle.std.proofs.Common.{◌≡◌, ◌<◌, ◌+◌, ℕ, ℤ, min, List, [], ◌∷◌, ◌++◌, length, take, drop, get_or, Option, ap, sym, subst, ◌∙◌}
 use Rattle.std.specs.Fmt.{signed_decimal}
 use Rattle.std.proofs.lemmas.List.{drop_more, map-append, take_more, take-append-drop}
 use Rattle.std.proofs.lemmas.List.Concat.{flat_map-append}
@@ -16,9 +16,10 @@ may_first first second old new may = (min may.0 (length first), may.1 ∙ ap (ap
 -- so is the whole first text, and a prefix of the second
 pub may_second : (first second : List ℕ) (old mid new : Option (List ℕ)) → mid ≡ append_known old first → MayPut second mid new → MayPut (first ++ second) old new
 may_second first second old mid new done may = (
-    length first + may.0,
-    may.1 ∙ ap (λ (m : Option (List ℕ)). append_known m (take may.0 second)) done ∙ known_more old first (take may.0 second)
-        ∙ ap (append_known old) (sym (take-append-add first second may.0)))
+  length first + may.0,
+  may.1 ∙ ap (λ (m : Option (List ℕ)). append_known m (take may.0 second)) done ∙ known_more old first (take may.0 second)
+      ∙ ap (append_known old) (sym (take-append-add first second may.0)),
+)
 
 -- both texts whole
 pub put_both : (first second : List ℕ) (old mid new : Option (List ℕ)) → mid ≡ append_known old first → new ≡ append_known mid second → new ≡ append_known old (first ++ second)

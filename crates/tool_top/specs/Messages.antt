@@ -1,17 +1,17 @@
 -- The line that a command puts on standard error where it does not end well.
-use Rattle.std.specs.Prelude.{◌≡◌, ℕ, ℤ, List, [], ◌∷◌, ◌++◌, map, codes, decimal}
+use Rattle.std.specs.Prelude.{ℕ, ℤ, List, [], ◌∷◌, ◌++◌, map, codes, decimal}
 use Rattle.std.specs.Fmt.{signed_decimal}
 use Rattle.outside.specs.Pieces.{text_of_parts}
 use Rattle.mat_files.specs.declared.faults.TextFault.{TextFault}
-use Rattle.mat_files.specs.declared.faults.TextFault.TheVariants.{NotNumber, NotRelation, OutOfRange, Early, Extra, TooManyRows, TooManyCols, NoCols}
+use Rattle.mat_files.specs.declared.faults.TextFault.TheVariants.{NotNumber, NotRelation, NotCap, OutOfRange, Early, Extra, TooManyRows, TooManyCols, NoCols}
 use Rattle.system_shape.specs.declared.faults.ShapeFault.{ShapeFault}
-use Rattle.system_shape.specs.declared.faults.ShapeFault.TheVariants.{SignNeeded, SignShape, BadSign, Free, RelShape, RhsNotHere, RhsShape}
+use Rattle.system_shape.specs.declared.faults.ShapeFault.TheVariants.{SignNeeded, SignShape, BadSign, Free, RelShape, RhsNotHere, RhsShape, CapShape}
 use Rattle.lift_core.specs.declared.Tool.{Tool}
 use Rattle.lift_core.specs.declared.Tool.TheVariants.{Graver, Hilbert, Zsolve}
 use Rattle.lift_run.specs.declared.ends.Place.{Place}
 use Rattle.lift_run.specs.declared.ends.Place.TheVariants.{Row, Norm}
 use Rattle.tool_top.specs.declared.ends.Part.{Part}
-use Rattle.tool_top.specs.declared.ends.Part.TheVariants.{Sign, Rel, Rhs, Out}
+use Rattle.tool_top.specs.declared.ends.Part.TheVariants.{Sign, Rel, Rhs, Cap, Out}
 use Rattle.tool_top.specs.declared.ends.End.{End}
 use Rattle.tool_top.specs.declared.ends.End.TheVariants.{Done, Usage, Missing, TooLong, Text, Refused, Shape, Overflow, Pairs, Rows, Outside, Memory}
 use Rattle.tool_top.specs.Names.{file_name}
@@ -40,6 +40,7 @@ at_byte at fault = codes "byte " ∷ decimal at ∷ fault ∷ []
 abbrev pub text_fault : TextFault → List (List ℕ)
 text_fault (NotNumber at) = at_byte at (codes ": not a number")
 text_fault (NotRelation at) = at_byte at (codes ": not a relation")
+text_fault (NotCap at) = at_byte at (codes ": not a cap")
 text_fault (OutOfRange at) = at_byte at (codes ": out of range")
 text_fault (Early at) = at_byte at (codes ": more expected")
 text_fault (Extra at) = at_byte at (codes ": nothing more expected")
@@ -52,6 +53,7 @@ abbrev pub shape_part : ShapeFault → Part
 shape_part (RelShape rows cols) = Rel
 shape_part RhsNotHere = Rhs
 shape_part (RhsShape rows cols) = Rhs
+shape_part (CapShape rows cols) = Cap
 shape_part fault = Sign
 
 abbrev pub wrong_shape : ℕ → ℕ → List (List ℕ)
@@ -68,6 +70,7 @@ shape_fault_words (Free at) = codes "column " ∷ decimal at ∷ codes ": free v
 shape_fault_words (RelShape rows cols) = wrong_shape rows cols
 shape_fault_words RhsNotHere = codes "only for zsolve" ∷ []
 shape_fault_words (RhsShape rows cols) = wrong_shape rows cols
+shape_fault_words (CapShape rows cols) = wrong_shape rows cols
 
 -- the entries of a solution, each behind a space (32)
 abbrev pub entries : List ℤ → List (List ℕ)

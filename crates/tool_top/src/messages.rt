@@ -118,6 +118,7 @@ fn put_text_fault<E: Sink>(err: &mut E, fault: TextFault) -> Result<(), PutEnd>
     match fault {
         TextFault::NotNumber { at } => put_number(err, b"byte ", at, b": not a number"),
         TextFault::NotRelation { at } => put_number(err, b"byte ", at, b": not a relation"),
+        TextFault::NotCap { at } => put_number(err, b"byte ", at, b": not a cap"),
         TextFault::OutOfRange { at } => put_number(err, b"byte ", at, b": out of range"),
         TextFault::Early { at } => put_number(err, b"byte ", at, b": more expected"),
         TextFault::Extra { at } => put_number(err, b"byte ", at, b": nothing more expected"),
@@ -128,7 +129,12 @@ fn put_text_fault<E: Sink>(err: &mut E, fault: TextFault) -> Result<(), PutEnd>
 }
 
 // Puts a file's name, and what is wrong with its text.
-fn put_text_line<E: Sink>(err: &mut E, project: &str, part: Part, fault: TextFault) -> Result<(), PutEnd>
+fn put_text_line<E: Sink>(
+    err: &mut E,
+    project: &str,
+    part: Part,
+    fault: TextFault,
+) -> Result<(), PutEnd>
     ensures done { OnOk result (E.held err.new ≡ append_known (E.held err.old) (text_of_parts (about project.now part (text_fault fault)))) }
     ensures refused { OnErr result (MayPut (text_of_parts (about project.now part (text_fault fault))) (E.held err.old) (E.held err.new)) }
     ensures cause { HasCause (E.faults err.old) (E.faults err.new) result }
@@ -194,6 +200,7 @@ fn put_shape_fault<E: Sink>(err: &mut E, fault: ShapeFault) -> Result<(), PutEnd
         ShapeFault::RelShape { rows, cols } => put_shape(err, rows, cols),
         ShapeFault::RhsNotHere => put_text(err, b"only for zsolve"),
         ShapeFault::RhsShape { rows, cols } => put_shape(err, rows, cols),
+        ShapeFault::CapShape { rows, cols } => put_shape(err, rows, cols),
     }
 }
 
@@ -204,6 +211,7 @@ fn shape_part(fault: ShapeFault) -> Part
     match fault {
         ShapeFault::RelShape { .. } => Part::Rel,
         ShapeFault::RhsNotHere | ShapeFault::RhsShape { .. } => Part::Rhs,
+        ShapeFault::CapShape { .. } => Part::Cap,
         _ => Part::Sign,
     }
 }
@@ -248,7 +256,14 @@ fn put_solution<E: Sink>(err: &mut E, stage: u32, cells: &[i64]) -> Result<(), P
 }
 
 // Puts a budget that is spent.
-fn put_spent<E: Sink>(err: &mut E, budget: &[u8], stage: u32, norm: u64, needed: u64, things: &[u8]) -> Result<(), PutEnd>
+fn put_spent<E: Sink>(
+    err: &mut E,
+    budget: &[u8],
+    stage: u32,
+    norm: u64,
+    needed: u64,
+    things: &[u8],
+) -> Result<(), PutEnd>
     ensures done { OnOk result (E.held err.new ≡ append_known (E.held err.old) (text_of_parts (budget.now ∷ decimal stage ∷ codes ", norm " ∷ decimal norm ∷ codes ": " ∷ decimal needed ∷ things.now ∷ []))) }
     ensures refused { OnErr result (MayPut (text_of_parts (budget.now ∷ decimal stage ∷ codes ", norm " ∷ decimal norm ∷ codes ": " ∷ decimal needed ∷ things.now ∷ [])) (E.held err.old) (E.held err.new)) }
     ensures cause { HasCause (E.faults err.old) (E.faults err.new) result }
@@ -363,7 +378,11 @@ fn put_words<E: Sink>(err: &mut E, tool: Tool, project: &str, end: &End) -> Resu
         End::Refused(part) => put_about(err, project, *part, b"not supported"),
         End::Shape(fault) => put_shape_line(err, project, *fault),
         End::Overflow { stage, place } => put_overflow(err, *stage, place),
-        End::Pairs { stage, norm, needed } => put_pairs(err, *stage, *norm, *needed),
+        End::Pairs {
+            stage,
+            norm,
+            needed,
+        } => put_pairs(err, *stage, *norm, *needed),
         End::Rows { stage, norm, count } => put_rows(err, *stage, *norm, *count),
         End::Outside(part) => put_about(err, project, *part, b"device failure"),
         End::Memory => put_text(err, b"out of memory"),
@@ -385,12 +404,7 @@ fn put_line<E: Sink>(err: &mut E, tool: Tool, project: &str, end: &End) -> Resul
 ///
 /// # Errors
 /// The sink refused a part of the line. A prefix of the line was put.
-pub fn put_message<E: Sink>(
-    tool: Tool,
-    project: &str,
-    end: &End,
-    err: &mut E,
-) -> Result<(), PutEnd>
+pub fn put_message<E: Sink>(tool: Tool, project: &str, end: &End, err: &mut E) -> Result<(), PutEnd>
     requires { IsDone end.now → ⊥ }
 
     // The whole line came.

@@ -1,4 +1,4 @@
-use Rattle.std.proofs.Common.{◌∷◌, [], ◌++◌, codes, decimal}
+use Rattle.std.proofs.Common.{◌∷◌, [], codes}
 use Rattle.std.proofs.lemmas.Result.{err_from_is_err_and, on_ok_weaker, on_err_weaker}
 use Rattle.tool_top.specs.Messages.{part_name}
 use Rattle.tool_top.proofs.Sequences.{parts_first, parts_second, parts_both}

@@ -35,3 +35,9 @@ returns-in-RhsShape-clause-done g c = rw c.in-RhsShape.is c.put_shape-in-RhsShap
 
 pub returns-in-RhsShape-clause-refused : goal.returns-in-RhsShape-clause-refused
 returns-in-RhsShape-clause-refused g c = rw c.in-RhsShape.is c.put_shape-in-RhsShape.ensures.refused
+
+pub returns-in-CapShape-clause-done : goal.returns-in-CapShape-clause-done
+returns-in-CapShape-clause-done g c = rw c.in-CapShape.is c.put_shape-in-CapShape.ensures.done
+
+pub returns-in-CapShape-clause-refused : goal.returns-in-CapShape-clause-refused
+returns-in-CapShape-clause-refused g c = rw c.in-CapShape.is c.put_shape-in-CapShape.ensures.refused

@@ -1,4 +1,4 @@
-use Rattle.std.proofs.Common.{◌≡◌, ◌∷◌, [], ◌++◌, ◌∙◌, codes, decimal, subst}
+use Rattle.std.proofs.Common.{◌≡◌, ◌∷◌, [], codes, subst}
 use Rattle.std.proofs.lemmas.Result.{err_from_is_err_and, on_ok_weaker, on_err_weaker}
 use Rattle.std.specs.Io.KnownBytes.{append_known}
 use Rattle.outside.specs.Pieces.{MayPut, text_of_parts}

@@ -47,3 +47,9 @@ returns-in-NoCols-clause-done g c = rw c.in-NoCols.is c.put_text.ensures.done
 
 pub returns-in-NoCols-clause-refused : goal.returns-in-NoCols-clause-refused
 returns-in-NoCols-clause-refused g c = rw c.in-NoCols.is c.put_text.ensures.refused
+
+pub returns-in-NotCap-clause-done : goal.returns-in-NotCap-clause-done
+returns-in-NotCap-clause-done g c = rw c.in-NotCap.is c.put_number-in-NotCap.ensures.done
+
+pub returns-in-NotCap-clause-refused : goal.returns-in-NotCap-clause-refused
+returns-in-NotCap-clause-refused g c = rw c.in-NotCap.is c.put_number-in-NotCap.ensures.refused
