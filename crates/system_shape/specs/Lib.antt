@@ -3,3 +3,4 @@ pub mod Solutions
 pub mod Laws
 pub mod Accepted
 pub mod Cells
+pub mod Tables
