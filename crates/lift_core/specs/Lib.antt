@@ -8,3 +8,4 @@ pub mod Ends
 pub mod Units
 pub mod Written
 pub mod Laws
+pub mod Halves

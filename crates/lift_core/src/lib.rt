@@ -3,6 +3,7 @@
 
 mod entries;
 mod equations;
+pub mod halves;
 pub mod laws;
 
 pub use entries::IntRow;
