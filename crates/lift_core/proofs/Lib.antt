@@ -25,3 +25,4 @@ pub mod Written
 pub mod Descent
 pub mod Trying
 pub mod Examples
+pub mod SmallHalf

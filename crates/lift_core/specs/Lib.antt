@@ -9,3 +9,4 @@ pub mod Ends
 pub mod Units
 pub mod Written
 pub mod Laws
+pub mod Halves

@@ -4,6 +4,7 @@
 mod capped;
 mod entries;
 mod equations;
+pub mod halves;
 pub mod laws;
 
 pub use entries::IntRow;

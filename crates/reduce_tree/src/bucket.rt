@@ -90,69 +90,25 @@ impl Bucket {
         requires width { pool.now.width ≡ length z.now }
         ensures { MatchOption result (HasNoneBelow self.now.places pool.now.rows z.now 0 (length self.now.places)) (λ id. IsBelowAt self.now.places pool.now.rows z.now id.0) }
     {
-        for block in 0..self.blocks.len() {
-            if !is_apart(self.blocks[block], outside) {
-                continue;
-            }
-            if let Some(id) = self.find_in_block(block, pool, z, outside, visits) {
-                return Some(id);
-            }
-        }
-        None
-    }
-
-    /// The same among the rows of a block.
-    fn find_in_block(
-        &self,
-        block: usize,
-        pool: &Pool,
-        z: &[i64],
-        outside: u128,
-        visits: &mut Visits,
-    ) -> Option<RowId>
-        requires marked { AreMarked self.now.places self.now.bits pool.now.rows z.now outside }
-        requires width { pool.now.width ≡ length z.now }
-        requires block { 64 * block < length self.now.places }
-        ensures { MatchOption result (HasNoneBelow self.now.places pool.now.rows z.now (64 * block) (64 * block + 64)) (λ id. IsBelowAt self.now.places pool.now.rows z.now id.0) }
-    {
-        let count = self.eights.len();
-        let end = count.min(8 * block + 8);
-        for eight in 8 * block..end {
-            if !is_apart(self.eights[eight], outside) {
-                continue;
-            }
-            if let Some(id) = self.find_in_eight(eight, pool, z, outside, visits) {
-                return Some(id);
-            }
-        }
-        None
-    }
-
-    /// The same among the rows of an eight.
-    fn find_in_eight(
-        &self,
-        eight: usize,
-        pool: &Pool,
-        z: &[i64],
-        outside: u128,
-        visits: &mut Visits,
-    ) -> Option<RowId>
-        requires marked { AreMarked self.now.places self.now.bits pool.now.rows z.now outside }
-        requires width { pool.now.width ≡ length z.now }
-        requires eight { 8 * eight < length self.now.places }
-        ensures { MatchOption result (HasNoneBelow self.now.places pool.now.rows z.now (8 * eight) (8 * eight + 8)) (λ id. IsBelowAt self.now.places pool.now.rows z.now id.0) }
-    {
         let count = self.bits.len();
-        let end = count.min(8 * eight + 8);
-        for k in 8 * eight..end {
-            if !is_apart(self.bits[k], outside) {
+        let mut k = 0;
+        while k < count {
+            if k % 64 == 0 && !is_apart(self.blocks[k / 64], outside) {
+                k += 64;
                 continue;
             }
-            visits.add();
-            let id = RowId(self.places[k]);
-            if below(pool.row(id), z) {
-                return Some(id);
+            if k % 8 == 0 && !is_apart(self.eights[k / 8], outside) {
+                k += 8;
+                continue;
             }
+            if is_apart(self.bits[k], outside) {
+                visits.add();
+                let id = RowId(self.places[k]);
+                if below(pool.row(id), z) {
+                    return Some(id);
+                }
+            }
+            k += 1;
         }
         None
     }
