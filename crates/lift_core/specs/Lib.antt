@@ -7,4 +7,7 @@ pub mod Sums
 pub mod Ends
 pub mod Units
 pub mod Written
+pub mod Times
+pub mod PureMachine
+pub mod MachineLaws
 pub mod Laws
