@@ -1,3 +1,5 @@
+pub mod Times
+pub mod PureMachine
 pub mod Caps
 pub mod Cells
 pub mod Search

@@ -8,5 +8,8 @@ pub mod Sums
 pub mod Ends
 pub mod Units
 pub mod Written
+pub mod Times
+pub mod PureMachine
+pub mod MachineLaws
 pub mod Laws
 pub mod Halves

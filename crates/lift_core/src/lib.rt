@@ -6,9 +6,11 @@ mod entries;
 mod equations;
 pub mod halves;
 pub mod laws;
+mod machine;
 
 pub use entries::IntRow;
 pub use equations::System;
+pub use machine::{Core, Event, StepEnd};
 
 /// What a system is solved for, after the commands of 4ti2.
 #[derive(Clone, Copy, Debug, PartialEq, Eq, Drop)]
