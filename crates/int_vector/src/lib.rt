@@ -9,7 +9,8 @@ ghost use Rattle.std.specs.Prelude.{◌≡◌, ◌+◌, ◌-◌, ◌^◌, ◌↔
 ghost use Rattle.std.specs.List.{AllZip};
 ghost use Rattle.std.specs.Ordering.{int_cmp};
 ghost use Rattle.std.specs.Cmp.Lexicographic.{slice_cmp};
-ghost use Rattle.int_vector.specs.Vectors.{IsWithin, ◌⊑◌, norm, dot, add, AreConformal, IsZero, leading_entry, sign};
+ghost use Rattle.int_vector.specs.Vectors.{IsWithin, ◌⊑◌, norm, dot, IsZero};
+ghost use Rattle.int_vector.specs.Operations.{add, AreConformal, leading_entry, sign};
 
 use std::cmp::Ordering;
 

@@ -2,14 +2,16 @@
 use Rattle.std.specs.Prelude.{◌<ℤ◌, ◌≡◌, ℕ, ◌+◌, ◌≤◌, ◌<◌, ◌⊎◌, ◌↔◌, max, List, [], ℤ, pos, ◌+ℤ◌, nat_abs, length, map, slice_index_or, not}
 use Rattle.std.specs.List.{count_by, Contains}
 use Rattle.std.specs.Ordering.{int_eq}
-use Rattle.int_vector.specs.Vectors.{◌⊑◌, IsZero}
-use Rattle.lift_core.specs.Systems.{LinearSystem, row, Solves}
-use Rattle.lift_core.specs.Extended.{extend}
-use Rattle.lift_core.specs.Stages.{last, stage_norm, IsMinimalSolution, IsStageVector, IsStageMinimal, IsListed, IsWaiting, IsStageList, IsPair, IsNewSum, IsWaitingAt, IsNextNorm, HasNoNextNorm, AreUsed}
-use Rattle.lift_core.specs.Sums.{IsDecomposition, IsConformalSum, last_total}
-use Rattle.lift_core.specs.Units.{IsSignedUnit}
-use Rattle.lift_core.specs.Written.{Kind, IsWanted, IsWantedGraver, negated, leads_negative}
-use Rattle.lift_core.specs.Ends.{Limits, End, finished, EndsIn, RunEnds, WalkEnds, IsSolutionList, solutions_in, still_waiting, IsGrown, used_up_to}
+use Rattle.int_vector.specs.Vectors.{◌⊑◌, IsZero, negated, leads_negative}
+use Rattle.lift_core.specs.Systems.{LinearSystem, row, Solves, IsMinimalSolution}
+use Rattle.lift_core.specs.Stages.{extend, last, stage_norm, IsStageVector, IsStageMinimal, IsListed, IsWaiting, IsStageList, IsPair, IsWaitingAt, IsNextNorm, HasNoNextNorm, AreUsed}
+use Rattle.lift_core.specs.Inside.PairSums.{IsNewSum}
+use Rattle.lift_core.specs.Inside.Decompositions.{IsDecomposition, IsConformalSum, last_total}
+use Rattle.lift_core.specs.Inside.Units.{IsSignedUnit}
+use Rattle.lift_core.specs.Columns.{Kind}
+use Rattle.lift_core.specs.Inside.Written.{IsWanted, IsWantedGraver}
+use Rattle.lift_core.specs.Ends.{Limits, End, finished, EndsIn, RunEnds, IsSolutionList}
+use Rattle.lift_core.specs.Inside.Walks.{WalkEnds, solutions_in, still_waiting, IsGrown, used_up_to}
 
 -- ---- single vectors and sums
 -- the minimal solutions of no rows are the signed unit vectors that the signs and caps allow

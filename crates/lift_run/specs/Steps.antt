@@ -1,8 +1,9 @@
 -- What the steps of a run do to the stage in hand.
 use Rattle.std.specs.Prelude.{◌≡◌, ℕ, ◌≤◌, Option, Some, None, Result, Ok, Err, IfSome}
 use Rattle.lift_core.specs.Stages.{IsNextNorm, HasNoNextNorm}
-use Rattle.lift_core.specs.Ends.{End, finished, largest, used_up_to}
-use Rattle.lift_core.specs.Ends.{Limits as Bounds}
+use Rattle.lift_core.specs.Ends.{End, finished, Limits as Bounds}
+use Rattle.int_vector.specs.Range.{largest}
+use Rattle.lift_core.specs.Inside.Walks.{used_up_to}
 use Rattle.stage_store.specs.Stage.{StageValue, used_of, IsDefined}
 use Rattle.stage_store.specs.declared.stage.Finish.{Finish}
 use Rattle.lift_run.specs.declared.ends.RunEnd.{RunEnd}

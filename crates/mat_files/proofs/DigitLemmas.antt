@@ -6,8 +6,7 @@ use Rattle.std.proofs.Math.IntN.{ℤ, nat_abs, neg_ℤ}
 use Rattle.std.specs.Fmt.{signed_decimal}
 use Rattle.std.specs.List.{AllByRecursion}
 use Rattle.std.specs.Option.{option_map}
-use Rattle.mat_files.specs.Words.{is_blank}
-use Rattle.mat_files.specs.Numbers.{is_digit, with_digits, digits_value, number_value, count_value}
+use Rattle.mat_files.specs.Words.{is_blank, is_digit, with_digits, digits_value, number_value, count_value}
 
 -- each byte is a digit
 abbrev pub AreDigits : List ℕ → Type 0

@@ -3,9 +3,10 @@
 use Rattle.std.proofs.Common.{◌≡◌, ◌≤◌, ◌*◌, ℕ, zero, suc, Bool, true, false, cond, eqb, nat_le, Option, Some, None, List, [], ◌∷◌, length, map, Result, IfOk, Ok, Err, refl, sym, ap, subst, ◌∙◌, arith}
 use Rattle.std.proofs.lemmas.Bool.{leb-true, eqb-false, le-leb, cond-true, cond-false, ne_eqb}
 use Rattle.std.specs.List.{AllByRecursion}
-use Rattle.mat_files.specs.Words.{Word, words_of}
-use Rattle.mat_files.specs.Numbers.{count_value}
-use Rattle.mat_files.specs.Tables.{Table, greatest, cells_at, count_at, count_in_range, next_count, up_to, not_zero, counts_at, table_of, Gives, ◌>>=◌}
+use Rattle.mat_files.specs.Words.{Word, words_of, count_value}
+use Rattle.mat_files.specs.Tables.{Table, cells_at, count_at, count_in_range, next_count, up_to, not_zero, counts_at, table_of, ◌>>=◌}
+use Rattle.int_vector.specs.Range.{largest}
+use Rattle.mat_files.specs.Answers.{Gives}
 use Rattle.mat_files.specs.Grammar.{IsTableText, IsTableWithin}
 use Rattle.mat_files.specs.declared.faults.TextEnd.{TextEnd}
 use Rattle.mat_files.specs.declared.faults.TextFault.{TextFault}
@@ -37,11 +38,11 @@ abbrev from_rows : ℕ → ℕ → ℕ → ℕ × List Word → Result Counts Te
 from_rows max_rows max_cols len first = up_to max_rows (TooManyRows first.0) first.0 >>= λ rows. next_count len first.1 >>= from_cols max_cols rows
 
 -- the text is read: a count in range is its number
-read_count : (w : Word) (n : ℕ) → count_value w.bytes ≡ Some n → n ≤ greatest → count_at w ≡ Ok n
-read_count w n e small = ap (count_in_range w) e ∙ cond-true _ _ _ (le-leb n greatest small)
+read_count : (w : Word) (n : ℕ) → count_value w.bytes ≡ Some n → n ≤ largest → count_at w ≡ Ok n
+read_count w n e small = ap (count_in_range w) e ∙ cond-true _ _ _ (le-leb n largest small)
 
 -- both counts are read
-read_counts : (max_rows max_cols len rows cols : ℕ) (rows_word cols_word : Word) (ws : List Word) → rows ≤ greatest → cols ≤ greatest → rows ≤ max_rows → cols ≤ max_cols → 1 ≤ cols →
+read_counts : (max_rows max_cols len rows cols : ℕ) (rows_word cols_word : Word) (ws : List Word) → rows ≤ largest → cols ≤ largest → rows ≤ max_rows → cols ≤ max_cols → 1 ≤ cols →
     count_value rows_word.bytes ≡ Some rows → count_value cols_word.bytes ≡ Some cols →
     counts_at max_rows max_cols len (rows_word ∷ cols_word ∷ ws) ≡ Ok (rows, (cols, ws))
 read_counts max_rows max_cols len rows cols rows_word cols_word ws small_rows small_cols few_rows few_cols wide rows_is cols_is =
@@ -57,7 +58,7 @@ read_counts max_rows max_cols len rows cols rows_word cols_word ws small_rows sm
 -- what a step that passed says, and what follows it
 count-then : {B : Type 0} (w : Word) (o : Option ℕ) (f : ℕ → Result B TextFault) (y : B) → (count_in_range w o >>= f) ≡ Ok y → (n : ℕ) × ((o ≡ Some n) × (f n ≡ Ok y))
 count-then w None f y e = cc
-count-then {B} w (Some n) f y e = go (nat_le n greatest) e where
+count-then {B} w (Some n) f y e = go (nat_le n largest) e where
   go : (t : Bool) → (cond t (Ok n) (Err (OutOfRange w.at)) >>= f) ≡ Ok y → (k : ℕ) × ((Some n ≡ Some k) × (f k ≡ Ok y))
   go true h = (n, (refl, h))
   go false h = cc
@@ -140,7 +141,7 @@ module _ {C : Type 0} (value : List ℕ → Option C) (IsAllowed : C → Type 0)
       ∙ ap (λ (r : Result (List C) TextFault). r >>= λ ys. Ok (x ∷ ys)) (read_cells len ws xs behind allowed.1)
 
   -- a text of a table within the limits is read as that table
-  pub table_of-text : (max_rows max_cols : ℕ) (text : List ℕ) (t : Table C) → t.rows ≤ greatest → t.cols ≤ greatest →
+  pub table_of-text : (max_rows max_cols : ℕ) (text : List ℕ) (t : Table C) → t.rows ≤ largest → t.cols ≤ largest →
       IsTableText value text t → IsTableWithin IsAllowed max_rows max_cols t → table_of cell_at max_rows max_cols text ≡ Ok t
   table_of-text max_rows max_cols text t small_rows small_cols spelled within =
       let len = length text in
@@ -198,10 +199,10 @@ module _ {C : Type 0} (value : List ℕ → Option C) (IsAllowed : C → Type 0)
   found_from view (Ok x) max_rows max_cols text e = text-table_of max_rows max_cols text (view x) e
   found_from view (Err f) max_rows max_cols text e = tt
 
-  pub only_from : {X : Type 0} (view : X → Table C) (r : Result X TextEnd) (max_rows max_cols : ℕ) (text : List ℕ) → max_rows ≤ greatest → max_cols ≤ greatest →
+  pub only_from : {X : Type 0} (view : X → Table C) (r : Result X TextEnd) (max_rows max_cols : ℕ) (text : List ℕ) → max_rows ≤ largest → max_cols ≤ largest →
       Gives view r (table_of cell_at max_rows max_cols text) →
       (t : Table C) → IsTableText value text t → IsTableWithin IsAllowed max_rows max_cols t → Gives view r (Ok t)
   only_from view r max_rows max_cols text few_rows few_cols e t spelled within =
-      let rows : t.rows ≤ greatest = omega (arith, within.rows, few_rows) in
-      let cols : t.cols ≤ greatest = omega (arith, within.cols, few_cols) in
+      let rows : t.rows ≤ largest = omega (arith, within.rows, few_rows) in
+      let cols : t.cols ≤ largest = omega (arith, within.cols, few_cols) in
       subst (Gives view r) (table_of-text max_rows max_cols text t rows cols spelled within) e

@@ -4,10 +4,12 @@ use Rattle.std.proofs.lemmas.Bool.{cond-true, cond-false}
 use Rattle.std.proofs.Math.IntN.{ℤ}
 use Rattle.std.specs.Fmt.{signed_decimal}
 use Rattle.std.specs.List.{AllByRecursion}
-use Rattle.mat_files.specs.Words.{Word, is_blank, joined, words_from, words_of}
-use Rattle.mat_files.specs.Numbers.{number_value, count_value}
-use Rattle.mat_files.specs.Matrices.{Matrix, IsMatrix, IsSmall, cell_at}
-use Rattle.mat_files.specs.Texts.{joined_cells, line_of, lines_of, text_of}
+use Rattle.mat_files.specs.Words.{Word, is_blank, joined, words_from, words_of, number_value, count_value}
+use Rattle.mat_files.specs.Cells.{Matrix, number_at}
+use Rattle.mat_files.specs.Grids.{IsMatrix}
+use Rattle.int_vector.specs.Range.{InRange}
+use Rattle.mat_files.specs.Texts.{joined_cells, line_of}
+use Rattle.mat_files.specs.Printed.{lines_of, text_of}
 use Rattle.mat_files.specs.Grammar.{IsTextOf, ReadsAs}
 use Rattle.mat_files.proofs.DigitLemmas.{IsWordText, word-decimal, word-signed_decimal, count_value-decimal, number_value-decimal}
 use Rattle.mat_files.proofs.TextLemmas.{suc_times}
@@ -34,7 +36,7 @@ spells-word (b ∷ d ∷ ds) c rest bodies w blank s p =
     (spells-word (d ∷ ds) c rest bodies (record { some = omega arith; solid = w.solid.1 }) blank s (p + 1))
 
 -- a row's line, of one cell or more
-spells-line : (cells : List ℤ) (rest : List ℕ) (bodies : List (List ℕ)) → 0 < length cells → AllByRecursion IsSmall cells → Spells bodies rest →
+spells-line : (cells : List ℤ) (rest : List ℕ) (bodies : List (List ℕ)) → 0 < length cells → AllByRecursion InRange cells → Spells bodies rest →
     Spells (map signed_decimal cells ++ bodies) (line_of cells ++ rest)
 spells-line [] rest bodies some small s p = absurd (omega (arith, some))
 spells-line (z ∷ []) rest bodies some small s p =
@@ -48,12 +50,12 @@ spells-line (z ∷ y ∷ zs) rest bodies some small s p =
     ∙ spells-word (signed_decimal z) 32 (line_of (y ∷ zs) ++ rest) (map signed_decimal (y ∷ zs) ++ bodies) (word-signed_decimal z (omega (arith, small.0))) refl
     (spells-line (y ∷ zs) rest bodies (omega arith) small.1 s) p
 
-all-take : (n : ℕ) (zs : List ℤ) → AllByRecursion IsSmall zs → AllByRecursion IsSmall (take n zs)
+all-take : (n : ℕ) (zs : List ℤ) → AllByRecursion InRange zs → AllByRecursion InRange (take n zs)
 all-take zero zs all = tt
 all-take (suc n) [] all = tt
 all-take (suc n) (z ∷ zs) all = (all.0, all-take n zs all.1)
 
-all-drop : (n : ℕ) (zs : List ℤ) → AllByRecursion IsSmall zs → AllByRecursion IsSmall (drop n zs)
+all-drop : (n : ℕ) (zs : List ℤ) → AllByRecursion InRange zs → AllByRecursion InRange (drop n zs)
 all-drop zero zs all = all
 all-drop (suc n) [] all = tt
 all-drop (suc n) (z ∷ zs) all = all-drop n zs all.1
@@ -73,7 +75,7 @@ take-some (suc n) [] some fits = absurd (omega (arith, fits))
 take-some (suc n) (z ∷ zs) some fits = omega arith
 
 -- the lines of all rows
-spells-lines : (rows cols : ℕ) (cells : List ℤ) → 1 ≤ cols → length cells ≡ rows * cols → AllByRecursion IsSmall cells → Spells (map signed_decimal cells) (lines_of rows cols cells)
+spells-lines : (rows cols : ℕ) (cells : List ℤ) → 1 ≤ cols → length cells ≡ rows * cols → AllByRecursion InRange cells → Spells (map signed_decimal cells) (lines_of rows cols cells)
 spells-lines zero cols cells wide count small p = length-none cells (let e : length cells ≡ 0 = omega arith in e)
 spells-lines (suc rows) cols cells wide count small p =
     let all = count ∙ suc_times rows cols in
@@ -92,7 +94,7 @@ spells-text m rows cols is p =
     (spells-word (decimal m.cols) 10 (lines_of m.rows m.cols m.cells) (map signed_decimal m.cells) (word-decimal m.cols cols) refl
     (spells-lines m.rows m.cols m.cells is.wide is.count is.small)) p
 
-values-back : (ws : List Word) (zs : List ℤ) → AllByRecursion IsSmall zs → map (λ w. w.bytes) ws ≡ map signed_decimal zs → map (λ w. number_value w.bytes) ws ≡ map Some zs
+values-back : (ws : List Word) (zs : List ℤ) → AllByRecursion InRange zs → map (λ w. w.bytes) ws ≡ map signed_decimal zs → map (λ w. number_value w.bytes) ws ≡ map Some zs
 values-back [] [] small e = refl
 values-back [] (z ∷ zs) small e = cc
 values-back (w ∷ ws) [] small e = cc
@@ -135,6 +137,6 @@ printed-spells view (Err f) m rows cols is e = tt
 pub printed-reads : {X E : Type 0} (view : X → List ℕ) (r : Result X E) (m : Matrix) → m.rows < 2 ^ 32 → m.cols < 2 ^ 32 → IsMatrix m.rows m.cols m.cells →
     IfOk r (λ x. view x ≡ text_of m) → IfOk r (λ x. ReadsAs (view x) m)
 printed-reads view (Ok x) m rows cols is e = λ max_rows max_cols few_rows few_cols.
-    table_of-text number_value IsSmall cell_at reads_numbers max_rows max_cols (view x) m (omega arith) (omega arith)
+    table_of-text number_value InRange number_at reads_numbers max_rows max_cols (view x) m (omega arith) (omega arith)
     (text-printed (view x) m (omega arith) (omega arith) is e) (record { rows = few_rows; cols = few_cols; wide = is.wide; allowed = is.small })
 printed-reads view (Err f) m rows cols is e = tt

@@ -1,7 +1,8 @@
 -- Writing the rows of a matrix one by one: the lines that stand and those that are left make the whole.
 use Rattle.std.proofs.Common.{◌≡◌, ◌<◌, ◌+◌, ◌-◌, ◌*◌, ℕ, suc, List, ◌++◌, length, take, drop, sym, ap, ◌∙◌, arith, append_assoc}
 use Rattle.std.proofs.Math.IntN.{ℤ}
-use Rattle.mat_files.specs.Texts.{line_of, lines_of}
+use Rattle.mat_files.specs.Texts.{line_of}
+use Rattle.mat_files.specs.Printed.{lines_of}
 
 less_one : (n i : ℕ) → i < n → n - i ≡ suc (n - (i + 1))
 less_one n i h = omega arith

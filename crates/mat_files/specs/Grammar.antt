@@ -1,13 +1,10 @@
 -- Which texts spell a table, said without a reader.
 use Rattle.std.specs.Prelude.{◌≡◌, ◌≤◌, ◌*◌, ⊤, ℕ, List, ◌∷◌, length, map, Option, Some, Ok}
 use Rattle.std.specs.List.{AllByRecursion}
-use Rattle.int_vector.specs.Range.{IsCap}
-use Rattle.mat_files.specs.Words.{Word, words_of}
-use Rattle.mat_files.specs.Numbers.{number_value, count_value}
+use Rattle.int_vector.specs.Range.{IsCap, InRange}
+use Rattle.mat_files.specs.Words.{Word, words_of, number_value, count_value}
 use Rattle.mat_files.specs.Tables.{Table}
-use Rattle.mat_files.specs.Matrices.{Matrix, IsSmall, matrix_of}
-use Rattle.mat_files.specs.Relations.{Relations, relation_value}
-use Rattle.mat_files.specs.Caps.{CapTable, cap_value}
+use Rattle.mat_files.specs.Cells.{Matrix, matrix_of, Relations, relation_value, CapTable, cap_value}
 
 -- The words are the count of rows, the count of columns and the cells row by row, and nothing else.
 pub record IsTableText {C : Type 0} (value : List ℕ → Option C) (text : List ℕ) (t : Table C) : Type 0 where
@@ -32,8 +29,8 @@ abbrev pub IsTextOf : List ℕ → Matrix → Type 0
 IsTextOf text m = IsTableText number_value text m
 
 -- a matrix within the limits, each number in range
-abbrev pub IsWithin : ℕ → ℕ → Matrix → Type 0
-IsWithin max_rows max_cols m = IsTableWithin IsSmall max_rows max_cols m
+abbrev pub IsMatrixWithin : ℕ → ℕ → Matrix → Type 0
+IsMatrixWithin max_rows max_cols m = IsTableWithin InRange max_rows max_cols m
 
 -- within any limits that the matrix keeps, the text is read as this matrix
 abbrev pub ReadsAs : List ℕ → Matrix → Type 0

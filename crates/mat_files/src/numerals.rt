@@ -1,10 +1,9 @@
 // Numbers in digits.
 ghost use Rattle.std.specs.Prelude.{◌≡◌, ◌^◌, if◌then◌else◌, min, pos, neg_ℤ, MatchOption, ℕ};
 ghost use Rattle.std.specs.Option.{option_map};
-ghost use Rattle.mat_files.specs.Numbers.{digits_value, number_value, count_value};
+ghost use Rattle.mat_files.specs.Words.{digits_value, number_value, count_value};
 ghost use Rattle.mat_files.specs.Tables.{count_at};
-ghost use Rattle.mat_files.specs.Matrices.{cell_at};
-ghost use Rattle.mat_files.specs.Caps.{cap_at};
+ghost use Rattle.mat_files.specs.Cells.{number_at, cap_at};
 
 use crate::TextFault;
 use crate::scanning::TextWord;
@@ -53,7 +52,7 @@ fn skip_plus(bytes: &[u8]) -> &[u8]
 
 // The number that a word stands for.
 fn number(word: &TextWord<'_>) -> Result<i64, TextFault>
-    ensures { result ≡ cell_at (record { at = word.now.at; bytes = word.now.bytes.now }) }
+    ensures { result ≡ number_at (record { at = word.now.at; bytes = word.now.bytes.now }) }
 {
     let (negative, digits) = split_sign(word.bytes);
     match capped_value(digits) {
@@ -65,7 +64,7 @@ fn number(word: &TextWord<'_>) -> Result<i64, TextFault>
 }
 
 impl Cell for i64 {
-    ghost cell_at = { cell_at };
+    ghost cell_at = { number_at };
 
     fn read(word: &TextWord<'_>) -> Result<i64, TextFault> {
         number(word)

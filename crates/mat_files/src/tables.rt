@@ -1,6 +1,7 @@
 // Tables of cells of any kind: two counts, and the cells row by row.
 ghost use Rattle.std.specs.Prelude.{◌≡◌, ◌≤◌, ◌^◌, [], ◌∷◌, IfOk, MatchResult};
-ghost use Rattle.mat_files.specs.Tables.{cells_at, next_count, counts_at, table_of, Gives};
+ghost use Rattle.mat_files.specs.Tables.{cells_at, next_count, counts_at, table_of};
+ghost use Rattle.mat_files.specs.Answers.{Gives};
 ghost use Rattle.mat_files.specs.declared.faults.TextFault.TheVariants.{Early};
 
 use crate::numerals::count;

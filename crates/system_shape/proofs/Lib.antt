@@ -6,3 +6,4 @@ pub mod RowCells
 pub mod UserRows
 pub mod Building
 pub mod Examples
+pub mod Answered

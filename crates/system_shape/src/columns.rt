@@ -1,16 +1,17 @@
 //! The signs and caps of the columns.
 
 ghost use Rattle.std.specs.Prelude.{◌≡◌, ◌++◌, ◌≤◌, ◌<◌, ℤ, ℕ, pos, None, length, replicate, IfOk, All};
-ghost use Rattle.lift_core.specs.Systems.{IsSign};
-ghost use Rattle.system_shape.specs.Shape.{signs_of, given_caps, has_home, home_signs, home_caps};
+ghost use Rattle.lift_core.specs.ToolSystems.{IsSign};
+ghost use Rattle.system_shape.specs.Shape.{given_signs, given_caps, has_x0};
+ghost use Rattle.system_shape.specs.Slacks.{x0_signs, x0_caps};
 
 use lift_core::Tool;
 use mat_files::{CapGrid, Grid};
 use std::alloc::{AllocError, Global};
 
 /// Whether the tool has a homogenising column.
-pub(crate) fn has_home(tool: Tool) -> bool
-    ensures { result ≡ has_home tool }
+pub(crate) fn has_x0(tool: Tool) -> bool
+    ensures { result ≡ has_x0 tool }
 {
     matches!(tool, Tool::Zsolve)
 }
@@ -41,8 +42,8 @@ fn file_signs(alloc: Global, entries: &[i64]) -> Result<Vec<i8>, AllocError>
 
 // the signs of the user's n columns
 fn user_signs(alloc: Global, tool: Tool, n: u32, sign: &Option<Grid>) -> Result<Vec<i8>, AllocError>
-    requires { All IsSign (signs_of tool n sign.now) }
-    ensures { IfOk result (λ v. v.items ≡ signs_of tool n sign.now) }
+    requires { All IsSign (given_signs tool n sign.now) }
+    ensures { IfOk result (λ v. v.items ≡ given_signs tool n sign.now) }
 {
     match sign {
         Some(file) => file_signs(alloc, &file.cells),
@@ -62,14 +63,14 @@ pub(crate) fn column_signs(
     sign: &Option<Grid>,
     slacks: usize,
 ) -> Result<Vec<i8>, AllocError>
-    requires { All IsSign (signs_of tool n sign.now) }
-    ensures { IfOk result (λ v. v.items ≡ signs_of tool n sign.now ++ (replicate slacks (pos 1) ++ home_signs (has_home tool))) }
+    requires { All IsSign (given_signs tool n sign.now) }
+    ensures { IfOk result (λ v. v.items ≡ given_signs tool n sign.now ++ (replicate slacks (pos 1) ++ x0_signs (has_x0 tool))) }
 {
     let mut signs = user_signs(alloc, tool, n, sign)?;
     for _slack in 0..slacks {
         signs.push(1)?;
     }
-    if has_home(tool) {
+    if has_x0(tool) {
         signs.push(1)?;
     }
     Ok(signs)
@@ -93,13 +94,13 @@ pub(crate) fn column_caps(
     cap: &Option<CapGrid>,
     slacks: usize,
 ) -> Result<Vec<Option<u64>>, AllocError>
-    ensures { IfOk result (λ v. v.items ≡ given_caps n cap.now ++ (replicate slacks None ++ home_caps (has_home tool))) }
+    ensures { IfOk result (λ v. v.items ≡ given_caps n cap.now ++ (replicate slacks None ++ x0_caps (has_x0 tool))) }
 {
     let mut caps = user_caps(alloc, n, cap)?;
     for _slack in 0..slacks {
         caps.push(None)?;
     }
-    if has_home(tool) {
+    if has_x0(tool) {
         caps.push(Some(1))?;
     }
     Ok(caps)

@@ -2,9 +2,11 @@
 
 ghost use Rattle.std.specs.Prelude.{◌≡◌, ◌++◌, ◌+◌, ◌*◌, ◌≤◌, ◌<◌, [], pos, length, replicate, drop, slice_index_or, IfOk, All};
 ghost use Rattle.mat_files.specs.declared.relations.Rel.TheVariants.{Most};
-ghost use Rattle.lift_core.specs.Systems.{InRange, rows_of};
-ghost use Rattle.system_shape.specs.Shape.{relations_of, rights_of, relation_of, slack_count_of, user_rows};
-ghost use Rattle.system_shape.specs.Cells.{slack_total, slack_part, home_cells, row_cells, cells_from};
+ghost use Rattle.int_vector.specs.Range.{InRange};
+ghost use Rattle.lift_core.specs.Lists.{cut_rows};
+ghost use Rattle.system_shape.specs.Shape.{given_relations, given_rights, relation_of, user_rows};
+ghost use Rattle.system_shape.specs.Slacks.{slack_count_of};
+ghost use Rattle.system_shape.specs.Inside.Cells.{slack_total, slack_part, x0_cells, row_cells, cells_from};
 
 use mat_files::{Grid, Rel, RelGrid};
 use std::alloc::{AllocError, Global};
@@ -15,7 +17,7 @@ pub(crate) fn relations(
     m: u32,
     rel: &Option<RelGrid>,
 ) -> Result<Vec<Rel>, AllocError>
-    ensures { IfOk result (λ v. v.items ≡ relations_of m rel.now) }
+    ensures { IfOk result (λ v. v.items ≡ given_relations m rel.now) }
 {
     match rel {
         Some(file) => Vec::from_slice(alloc, &file.cells),
@@ -25,7 +27,7 @@ pub(crate) fn relations(
 
 /// The right sides of m rows.
 pub(crate) fn right_sides(alloc: Global, m: u32, rhs: &Option<Grid>) -> Result<Vec<i64>, AllocError>
-    ensures { IfOk result (λ v. v.items ≡ rights_of m rhs.now) }
+    ensures { IfOk result (λ v. v.items ≡ given_rights m rhs.now) }
 {
     match rhs {
         Some(file) => Vec::from_slice(alloc, &file.cells),
@@ -103,11 +105,11 @@ fn push_slacks(cells: &mut Vec<i64>, slacks: Slacks) -> Result<(), AllocError>
 }
 
 // appends a row's entry in the homogenising column, where there is one
-fn push_home(cells: &mut Vec<i64>, home: bool, right: i64) -> Result<(), AllocError>
+fn push_x0(cells: &mut Vec<i64>, x0: bool, right: i64) -> Result<(), AllocError>
     requires { InRange right }
-    ensures { IfOk result (λ _. cells.new.items ≡ cells.old.items ++ home_cells home right) }
+    ensures { IfOk result (λ _. cells.new.items ≡ cells.old.items ++ x0_cells x0 right) }
 {
-    if home {
+    if x0 {
         cells.push(-right)?;
     }
     Ok(())
@@ -118,21 +120,21 @@ fn push_row(
     cells: &mut Vec<i64>,
     coefficients: &[i64],
     slacks: Slacks,
-    home: bool,
+    x0: bool,
     right: i64,
 ) -> Result<(), AllocError>
     requires { InRange right }
-    ensures { IfOk result (λ _. cells.new.items ≡ cells.old.items ++ row_cells home coefficients.now slacks.before (relation_of slacks.relation) slacks.behind right) }
+    ensures { IfOk result (λ _. cells.new.items ≡ cells.old.items ++ row_cells x0 coefficients.now slacks.before (relation_of slacks.relation) slacks.behind right) }
 {
     cells.extend_from_slice(coefficients)?;
     push_slacks(cells, slacks)?;
-    push_home(cells, home, right)
+    push_x0(cells, x0, right)
 }
 
 // the coefficients of a row, counted from 0
 fn coefficients(mat: &Grid, row: usize) -> &[i64]
     requires { row < mat.now.rows }
-    ensures { result.now ≡ slice_index_or (rows_of mat.now.rows mat.now.cols mat.now.cells) row [] }
+    ensures { result.now ≡ slice_index_or (cut_rows mat.now.rows mat.now.cols mat.now.cells) row [] }
 {
     let width = mat.cols as usize;
     let start = row * width;
@@ -145,25 +147,19 @@ pub(crate) fn equations(
     mat: &Grid,
     relations: &[Rel],
     rights: &[i64],
-    home: bool,
+    x0: bool,
 ) -> Result<Vec<i64>, AllocError>
     requires rows { mat.now.rows ≤ 64 }
     requires relations { length relations.now ≡ mat.now.rows }
     requires rights { length rights.now ≡ mat.now.rows }
     requires range { All InRange rights.now }
-    ensures { IfOk result (λ v. v.items ≡ cells_from home 0 (user_rows (rows_of mat.now.rows mat.now.cols mat.now.cells) relations.now rights.now)) }
+    ensures { IfOk result (λ v. v.items ≡ cells_from x0 0 (user_rows (cut_rows mat.now.rows mat.now.cols mat.now.cells) relations.now rights.now)) }
 {
     let mut entries = Vec::new(alloc);
     let mut before = 0;
     for row in 0..relations.len() {
         let place = place_of(relations, row, before);
-        push_row(
-            &mut entries,
-            coefficients(mat, row),
-            place,
-            home,
-            rights[row],
-        )?;
+        push_row(&mut entries, coefficients(mat, row), place, x0, rights[row])?;
         before = with_slack(place.relation, before);
     }
     Ok(entries)

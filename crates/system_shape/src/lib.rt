@@ -4,11 +4,11 @@
 //! the user's columns, a slack column for each inequality, and for `zsolve` a homogenising column.
 #![tactic(auto)]
 
-mod accepting;
 mod columns;
 mod equations;
 mod faults;
 mod files;
+mod first_fault;
 pub mod laws;
 mod shaping;
 

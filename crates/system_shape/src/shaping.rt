@@ -1,13 +1,16 @@
 //! From the user's matrices to the system.
 
 ghost use Rattle.std.specs.Prelude.{◌≡◌, ◌≤◌, length, IfOk};
-ghost use Rattle.system_shape.specs.Shape.{IsWellFormed, has_home, system_of, user_system, tool_system, shaped, Shapes};
-ghost use Rattle.system_shape.specs.Cells.{cells_from};
-ghost use Rattle.system_shape.specs.Accepted.{AreFitting};
+ghost use Rattle.system_shape.specs.Laws.{IsWellFormed};
+ghost use Rattle.system_shape.specs.Shape.{has_x0, user_system, tool_system};
+ghost use Rattle.system_shape.specs.Slacks.{linear_system};
+ghost use Rattle.system_shape.specs.Answers.{shaped, Shapes};
+ghost use Rattle.system_shape.specs.Inside.Cells.{cells_from};
+ghost use Rattle.system_shape.specs.Inside.Accepted.{AreFitting};
 
-use crate::accepting::shape_fault;
-use crate::columns::{column_caps, column_signs, has_home};
+use crate::columns::{column_caps, column_signs, has_x0};
 use crate::equations::{equations, relations, right_sides, slack_columns};
+use crate::first_fault::shape_fault;
 use crate::{Input, ShapeEnd};
 use lift_core::{System, Tool};
 use std::alloc::{AllocError, Global};
@@ -21,9 +24,9 @@ fn assemble(
     entries: Vec<i64>,
 ) -> System
     requires fitting { AreFitting tool input.now }
-    requires signs { signs.items ≡ (system_of (user_system tool input.now)).signs }
-    requires caps { caps.items ≡ (system_of (user_system tool input.now)).caps }
-    requires entries { entries.items ≡ cells_from (has_home tool) 0 (user_system tool input.now).rows }
+    requires signs { signs.items ≡ (linear_system (user_system tool input.now)).signs }
+    requires caps { caps.items ≡ (linear_system (user_system tool input.now)).caps }
+    requires entries { entries.items ≡ cells_from (has_x0 tool) 0 (user_system tool input.now).rows }
     ensures { result ≡ tool_system tool input.now }
 {
     let mat = &input.mat;
@@ -42,7 +45,7 @@ fn accepted_system(alloc: Global, tool: Tool, input: &Input) -> Result<System, A
     let slacks = slack_columns(&relations);
     let signs = column_signs(alloc, tool, mat.cols, &input.sign, slacks)?;
     let caps = column_caps(alloc, tool, mat.cols, &input.cap, slacks)?;
-    let entries = equations(alloc, mat, &relations, &rights, has_home(tool))?;
+    let entries = equations(alloc, mat, &relations, &rights, has_x0(tool))?;
     Ok(assemble(tool, input, signs, caps, entries))
 }
 

@@ -6,9 +6,8 @@ use Rattle.std.specs.Option.{option_map}
 use Rattle.std.specs.Io.KnownBytes.{append_known}
 use Rattle.outside.specs.Files.{Files}
 use Rattle.int_vector.specs.Vectors.{norm}
-use Rattle.lift_core.specs.Written.{Every, Homogeneous, Inhomogeneous}
-use Rattle.system_shape.specs.Shape.{UserSystem}
-use Rattle.system_shape.specs.Solutions.{IsWantedForUser, IsWantedGraverForUser}
+use Rattle.lift_core.specs.Columns.{Every, Homogeneous, Inhomogeneous}
+use Rattle.system_shape.specs.Problem.{UserSystem, IsWantedForUser, IsWantedGraverForUser}
 use Rattle.lift_core.specs.Ends.{Limits, RunEnds, norm_overflow, row_overflow, pairs_spent, rows_spent, finished}
 use Rattle.lift_core.specs.declared.Tool.{Tool}
 use Rattle.lift_core.specs.declared.Tool.TheVariants.{Graver, Hilbert, Zsolve}

@@ -2,12 +2,12 @@
 use Rattle.std.specs.Prelude.{◌≡◌, ℕ, nat_lt, is_some, if◌then◌else◌, List, [], ◌∷◌, length, Option, None, Some, Result, Ok, Err}
 use Rattle.std.specs.FinMap.{get}
 use Rattle.outside.specs.Files.{Files}
-use Rattle.mat_files.specs.Matrices.{Matrix, matrix_of}
-use Rattle.mat_files.specs.Relations.{Relations, relations_of}
+use Rattle.mat_files.specs.Cells.{Matrix, matrix_of, Relations, relation_table_of}
 use Rattle.mat_files.specs.declared.faults.TextFault.{TextFault}
 use Rattle.lift_core.specs.Systems.{ToolSystem}
 use Rattle.lift_core.specs.declared.Tool.{Tool}
-use Rattle.system_shape.specs.Shape.{UserSystem, user_system, tool_system, shape_fault}
+use Rattle.system_shape.specs.Problem.{UserSystem}
+use Rattle.system_shape.specs.Shape.{user_system, tool_system, shape_fault}
 use Rattle.system_shape.specs.declared.files.Input.{Input}
 use Rattle.system_shape.specs.declared.faults.ShapeFault.{ShapeFault}
 use Rattle.tool_top.specs.declared.ends.Part.{Part}
@@ -69,7 +69,7 @@ matrix_in part file = bytes_in part file >>= (λ bytes. optional (matrix_of 64 6
 
 -- the relations in a file
 abbrev pub relations_in : Part → Option (List ℕ) → Result (Option Relations) End
-relations_in part file = bytes_in part file >>= (λ bytes. optional (relations_of 64 64) part bytes)
+relations_in part file = bytes_in part file >>= (λ bytes. optional (relation_table_of 64 64) part bytes)
 
 -- none of these files is there
 abbrev pub without : Files → List ℕ → List Part → Result (Unit {0}) End
@@ -89,7 +89,7 @@ input_in files project = do
   rel ← relations_in Rel (get files (file_name project Rel))
   rhs ← matrix_in Rhs (get files (file_name project Rhs))
   absent ← without files project unsupported
-  Ok (record { mat = mat; sign = sign; rel = rel; rhs = rhs })
+  Ok (record { mat = mat; sign = sign; rel = rel; rhs = rhs; cap = None })
 
 -- the plan, or the fault of the system's shape
 abbrev pub unless_fault : Option ShapeFault → Plan → Result Plan End

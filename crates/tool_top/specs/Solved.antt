@@ -1,17 +1,20 @@
 -- What solving a system answers, and the outputs as the code holds them.
-use Rattle.std.specs.Prelude.{◌≡◌, ◌≤◌, ℕ, ℤ, List, [], ◌∷◌, Option, None, Some, Result, Ok, Err}
+use Rattle.std.specs.Prelude.{◌≡◌, ◌≤◌, ℕ, ℤ, List, [], ◌∷◌, length, Option, None, Some, Result, Ok, Err}
 use Rattle.std.specs.List.{AllByRecursion}
 use Rattle.outside.specs.Files.{Files}
 use Rattle.int_vector.specs.Vectors.{norm}
-use Rattle.mat_files.specs.Texts.{text_of}
-use Rattle.lift_core.specs.Systems.{ToolSystem, width}
+use Rattle.mat_files.specs.Printed.{text_of}
+use Rattle.lift_core.specs.Systems.{ToolSystem}
+use Rattle.lift_core.specs.ToolSystems.{width}
 use Rattle.solution_files.specs.Laws.{AreAllSolutions}
 use Rattle.lift_core.specs.declared.Tool.{Tool}
 use Rattle.lift_core.specs.declared.Tool.TheVariants.{Graver, Hilbert, Zsolve}
 use Rattle.lift_core.specs.Ends.{RunEnds, norm_overflow, row_overflow, pairs_spent, rows_spent, finished}
-use Rattle.lift_core.specs.Written.{Kind, Every, Homogeneous, Inhomogeneous, IsWanted, IsWantedGraver}
+use Rattle.lift_core.specs.Columns.{Kind, Every, Homogeneous, Inhomogeneous}
+use Rattle.lift_core.specs.Inside.Written.{IsWanted, IsWantedGraver}
 use Rattle.lift_run.specs.declared.ends.Place.TheVariants.{Row, Norm}
-use Rattle.system_shape.specs.Shape.{IsWellFormed, user_system, tool_system, shape_fault}
+use Rattle.system_shape.specs.Laws.{IsWellFormed}
+use Rattle.system_shape.specs.Shape.{user_system, tool_system, shape_fault}
 use Rattle.system_shape.specs.declared.files.Input.{Input}
 use Rattle.stage_store.specs.declared.stage.Finish.{Finish}
 use Rattle.tool_top.specs.declared.ends.End.{End}

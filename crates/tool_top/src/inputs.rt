@@ -3,8 +3,7 @@ ghost use Rattle.std.specs.Prelude.{◌≡◌, ◌≤◌, ℕ, [], ◌∷◌, If
 ghost use Rattle.std.specs.Option.{option_map};
 ghost use Rattle.std.specs.FinMap.{get};
 ghost use Rattle.outside.specs.Causes.{Rose};
-ghost use Rattle.mat_files.specs.Matrices.{matrix_of};
-ghost use Rattle.mat_files.specs.Relations.{relations_of};
+ghost use Rattle.mat_files.specs.Cells.{matrix_of, relation_table_of};
 ghost use Rattle.tool_top.specs.Names.{file_name};
 ghost use Rattle.tool_top.specs.Planned.{bytes_in, optional, matrix_in, relations_in, input_in, without, unsupported, Finds, FindsBy, IsInput, IsEarly};
 ghost use Rattle.tool_top.specs.Solved.{ShapesTo};
@@ -71,7 +70,7 @@ fn parse_relations(
     part: Part,
     bytes: &Option<Vec<u8>>,
 ) -> Result<Option<RelGrid>, End>
-    ensures relations { Finds result (optional (relations_of 64 64) part (option_map (λ v. v.items) bytes.now)) }
+    ensures relations { Finds result (optional (relation_table_of 64 64) part (option_map (λ v. v.items) bytes.now)) }
     ensures calm { (p : Part) → result ≡ Err (End.Outside p) → ⊥ }
     ensures early { IfErr result IsEarly }
 {

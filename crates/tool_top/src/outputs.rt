@@ -3,8 +3,8 @@ ghost use Rattle.std.specs.Prelude.{◌≡◌, ◌≤◌, ◌<◌, ◌^◌, ℕ,
 ghost use Rattle.std.specs.Option.{option_map};
 ghost use Rattle.int_vector.specs.Vectors.{norm};
 ghost use Rattle.outside.specs.Causes.{Rose};
-ghost use Rattle.mat_files.specs.Texts.{text_of};
-ghost use Rattle.lift_core.specs.Systems.{width};
+ghost use Rattle.mat_files.specs.Printed.{text_of};
+ghost use Rattle.lift_core.specs.ToolSystems.{width};
 ghost use Rattle.solution_files.specs.Laws.{AreAllSolutions};
 ghost use Rattle.solution_files.specs.Outputs.{kind_of, written, MayWrite};
 ghost use Rattle.tool_top.specs.Names.{file_name};

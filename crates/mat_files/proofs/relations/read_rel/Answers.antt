@@ -1,6 +1,6 @@
 use Rattle.std.proofs.Common.{arith}
 use Rattle.std.specs.Prelude.{⊤}
-use Rattle.mat_files.specs.Relations.{relation_value, relation_at}
+use Rattle.mat_files.specs.Cells.{relation_value, relation_at}
 use Rattle.mat_files.proofs.GrammarLemmas.{found_from, only_from}
 use Rattle.mat_files.proofs.CellLemmas.{reads_relations}
 use Rattle.mat_files.proofs.relations.read_rel.Goals as goal

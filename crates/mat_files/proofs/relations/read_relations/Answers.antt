@@ -1,4 +1,4 @@
-use Rattle.mat_files.specs.Relations.{relation_value, relation_at}
+use Rattle.mat_files.specs.Cells.{relation_value, relation_at}
 use Rattle.std.specs.Prelude.{⊤}
 use Rattle.mat_files.proofs.GrammarLemmas.{text-table_of}
 use Rattle.mat_files.proofs.CellLemmas.{reads_relations}
