@@ -1,5 +1,5 @@
 -- What a project's files say: the first fault, or the user's system and the linear system that stands for it.
-use Rattle.std.specs.Prelude.{◌≡◌, ◌≤◌, ℕ, is_some, if◌then◌else◌, List, [], ◌∷◌, Option, None, Some, Result, Ok, Err}
+use Rattle.std.specs.Prelude.{◌≡◌, ◌≤◌, ℕ, is_some, if◌then◌else◌, List, [], ◌∷◌, length, Option, None, Some, Result, Ok, Err}
 use Rattle.std.specs.FinMap.{get}
 use Rattle.outside.specs.Files.{Files}
 use Rattle.outside.specs.Causes.{Rose}
@@ -9,9 +9,9 @@ use Rattle.system_shape.specs.Shape.{IsWellFormed, user_system, tool_system, sha
 use Rattle.system_shape.specs.declared.files.Input.{Input}
 use Rattle.system_shape.specs.declared.faults.ShapeFault.{ShapeFault}
 use Rattle.system_files.specs.Sources.{file_name}
-use Rattle.system_files.specs.Files.{◌>>=◌, grid_in, optional_grid_in, optional_relations_in}
+use Rattle.system_files.specs.Files.{◌>>=◌, grid_in, optional_grid_in, optional_relations_in, optional_caps_in}
 use Rattle.system_files.specs.declared.sources.Source.{Source}
-use Rattle.system_files.specs.declared.sources.Source.TheVariants.{Mat, Sign, Rel, Rhs, Lat, Lb, Ub}
+use Rattle.system_files.specs.declared.sources.Source.TheVariants.{Mat, Sign, Rel, Rhs, Cap, Lat, Lb, Ub}
 use Rattle.system_files.specs.declared.faults.FileFault.{FileFault}
 use Rattle.system_files.specs.declared.faults.FileEnd.{FileEnd}
 use Rattle.system_files.specs.declared.faults.FileEnd.TheVariants as file
@@ -43,8 +43,9 @@ input_in project files = do
   sign ← at Sign (optional_grid_in 4194304 64 64 (get files (file_name project Sign)))
   rel ← at Rel (optional_relations_in 4194304 64 64 (get files (file_name project Rel)))
   rhs ← at Rhs (optional_grid_in 4194304 64 64 (get files (file_name project Rhs)))
+  cap ← at Cap (optional_caps_in 4194304 64 64 (get files (file_name project Cap)))
   absent ← without project unsupported files
-  Ok (record { mat = mat; sign = sign; rel = rel; rhs = rhs })
+  Ok (record { mat = mat; sign = sign; rel = rel; rhs = rhs; cap = cap })
 
 -- the value, or the fault of the matrices' shape
 abbrev pub unless_fault : {A : Type 0} → Option ShapeFault → A → Result A InputFault
@@ -64,6 +65,7 @@ pub record IsShaped (tool : Tool) (input : Input) (system : ToolSystem) : Type 0
   pub fits : shape_fault tool input ≡ None
   pub is : system ≡ tool_system tool input
   pub formed : IsWellFormed (user_system tool input)
+  pub columns : input.mat.cols ≡ length (user_system tool input).signs
 
 -- ---- answers
 -- the end of a file, with the file

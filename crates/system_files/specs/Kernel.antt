@@ -12,7 +12,12 @@ rows_in m = rows_of m.rows m.cols m.cells
 abbrev pub IsInKernel : List (List ℤ) → List ℤ → Type 0
 IsInKernel rows v = AllByRecursion (λ r. dot r v ≡ pos 0) rows
 
--- and the norm is at most 2^63-1
+-- a vector of n entries in the kernel
+pub record IsKernelVector (n : ℕ) (rows : List (List ℤ)) (v : List ℤ) : Type 0 where
+  pub columns : length v ≡ n
+  pub kernel : IsInKernel rows v
+
+-- in the kernel, and the norm is at most 2^63-1
 pub record IsKernelRow (rows : List (List ℤ)) (v : List ℤ) : Type 0 where
   pub small : norm v ≤ 9223372036854775807
   pub kernel : IsInKernel rows v

@@ -4,10 +4,11 @@ ghost use Rattle.std.specs.Option.{option_map};
 ghost use Rattle.std.specs.FinMap.{get};
 ghost use Rattle.mat_files.specs.Matrices.{matrix_of};
 ghost use Rattle.mat_files.specs.Relations.{relations_of};
-ghost use Rattle.system_files.specs.Files.{text_in, spelled, optional_grid_in, grid_in, optional_relations_in, Reads, ReadsBy, HasFileCause};
+ghost use Rattle.mat_files.specs.Caps.{cap_table_of};
+ghost use Rattle.system_files.specs.Files.{text_in, spelled, optional_grid_in, grid_in, optional_relations_in, optional_caps_in, Reads, ReadsBy, HasFileCause};
 
 use crate::{FileEnd, FileFault};
-use mat_files::{Grid, RelGrid, read_grid, read_rel};
+use mat_files::{CapGrid, Grid, RelGrid, read_cap, read_grid, read_rel};
 use outside::{Folder, read_all};
 use std::alloc::{AllocError, Global};
 
@@ -77,6 +78,25 @@ fn parse_relations(
     Ok(Some(relations))
 }
 
+// The caps that the text spells, where there is one.
+fn parse_caps(
+    alloc: Global,
+    text: &Option<Vec<u8>>,
+    max_rows: u32,
+    max_cols: u32,
+) -> Result<Option<CapGrid>, FileEnd>
+    requires rows { max_rows ≤ 2 ^ 21 }
+    requires cols { max_cols ≤ 64 }
+    ensures caps { Reads result (spelled (cap_table_of max_rows max_cols) (option_map (λ v. v.items) text.now)) }
+    ensures calm { result ≡ Err FileEnd.Failed → ⊥ }
+{
+    let Some(text) = text else {
+        return Ok(None);
+    };
+    let caps = read_cap(alloc, text, max_rows, max_cols)?;
+    Ok(Some(caps))
+}
+
 // The matrix in the file, none where it is not there.
 pub(crate) fn read_optional_grid<F: Folder>(
     alloc: Global,
@@ -118,6 +138,27 @@ pub(crate) fn read_optional_relations<F: Folder>(
 {
     let text = read_text(alloc, folder, project, ending, limit)?;
     parse_relations(alloc, &text, max_rows, max_cols)
+}
+
+// The caps in the file, none where it is not there.
+pub(crate) fn read_optional_caps<F: Folder>(
+    alloc: Global,
+    folder: &mut F,
+    project: &str,
+    ending: &str,
+    limit: u64,
+    max_rows: u32,
+    max_cols: u32,
+) -> Result<Option<CapGrid>, FileEnd>
+    requires rows { max_rows ≤ 2 ^ 21 }
+    requires cols { max_cols ≤ 64 }
+    ensures same { F.held folder.new ≡ F.held folder.old }
+    ensures caps { IfSome (F.held folder.old) (λ files. Reads result
+        (optional_caps_in limit max_rows max_cols (get files (project.now ++ ending.now)))) }
+    ensures cause { HasFileCause (F.faults folder.old) (F.faults folder.new) result }
+{
+    let text = read_text(alloc, folder, project, ending, limit)?;
+    parse_caps(alloc, &text, max_rows, max_cols)
 }
 
 /// The matrix in the file whose name is `project` followed by `ending`. The file has at most `limit` bytes, and the

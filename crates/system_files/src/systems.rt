@@ -4,13 +4,15 @@ ghost use Rattle.std.specs.FinMap.{get};
 ghost use Rattle.lift_core.specs.Systems.{ToolSystem};
 ghost use Rattle.system_shape.specs.Shape.{shape_fault};
 ghost use Rattle.system_files.specs.Sources.{file_name};
-ghost use Rattle.system_files.specs.Files.{grid_in, optional_grid_in, optional_relations_in};
+ghost use Rattle.system_files.specs.Files.{grid_in, optional_grid_in, optional_relations_in, optional_caps_in};
 ghost use Rattle.system_files.specs.Inputs.{placed, at, without, unsupported, input_in, accepted_in, system_in, Finds, FindsBy, Gives, IsShaped, unless_fault, HasStopCause, HasInputCause};
 
-use crate::files::{file_name, read_grid_file, read_optional_grid, read_optional_relations};
+use crate::files::{
+    file_name, read_grid_file, read_optional_caps, read_optional_grid, read_optional_relations,
+};
 use crate::{FileEnd, InputEnd, InputFault, InputStop, Source};
 use lift_core::{System, Tool};
-use mat_files::{Grid, RelGrid};
+use mat_files::{CapGrid, Grid, RelGrid};
 use outside::{Folder, PutEnd};
 use std::alloc::Global;
 use system_shape::{Input, shape};
@@ -113,6 +115,29 @@ fn read_relations<F: Folder>(
     placed(Source::Rel, found)
 }
 
+// The caps, none where their file is not there.
+fn read_caps<F: Folder>(
+    alloc: Global,
+    folder: &mut F,
+    project: &str,
+) -> Result<Option<CapGrid>, InputStop>
+    ensures same { F.held folder.new ≡ F.held folder.old }
+    ensures caps { IfSome (F.held folder.old) (λ files. Finds result
+        (at Source.Cap (optional_caps_in 4194304 64 64 (get files (file_name project.now Source.Cap))))) }
+    ensures cause { HasStopCause (F.faults folder.old) (F.faults folder.new) result }
+{
+    let found = read_optional_caps(
+        alloc,
+        folder,
+        project,
+        Source::Cap.ending(),
+        LONGEST,
+        MOST_ROWS,
+        MOST_COLUMNS,
+    );
+    placed(Source::Cap, found)
+}
+
 // The file is not there.
 fn refuse<F: Folder>(
     alloc: Global,
@@ -159,12 +184,14 @@ fn read_input<F: Folder>(alloc: Global, folder: &mut F, project: &str) -> Result
     let sign = read_line(alloc, folder, project, Source::Sign)?;
     let rel = read_relations(alloc, folder, project)?;
     let rhs = read_line(alloc, folder, project, Source::Rhs)?;
+    let cap = read_caps(alloc, folder, project)?;
     refuse_unsupported(alloc, folder, project)?;
     Ok(Input {
         mat,
         sign,
         rel,
         rhs,
+        cap,
     })
 }
 
@@ -182,7 +209,7 @@ fn shape_input(alloc: Global, tool: Tool, input: &Input) -> Result<System, Input
 
 /// The system of a project: the matrices of its files, and the linear system that stands for them.
 ///
-/// The files are `.mat`, `.sign`, `.rel`, `.rhs`, each of at most 4,194,304 bytes, 64 rows and 64 columns, and each
+/// The files are `.mat`, `.sign`, `.rel`, `.rhs`, `.cap`, each of at most 4,194,304 bytes, 64 rows and 64 columns, and each
 /// read before the next is looked at; all but `.mat` may be absent. Then `.lat`, `.lb` and `.ub` have to be absent, and
 /// the matrices have to fit each other.
 ///

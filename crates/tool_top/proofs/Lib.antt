@@ -1,3 +1,3 @@
-pub mod PutLemmas
-pub mod EndLemmas
-pub mod OutputLemmas
+pub mod Cuts
+pub mod Conclusions
+pub mod Wanted

@@ -1,17 +1,21 @@
 pub mod Names
-pub mod Planned
-pub mod Ends
-pub mod Solved
+pub mod Plan
+pub mod Outputs
+pub mod Expected
+pub mod Summary
+pub mod Left
+pub mod Inside
 pub use Rattle.outside.specs.Files
 pub use Rattle.outside.specs.Causes
-pub use Rattle.mat_files.specs.Matrices
-pub use Rattle.mat_files.specs.Relations
+pub use Rattle.outside.specs.Pieces
 pub use Rattle.mat_files.specs.Texts
 pub use Rattle.lift_core.specs.Systems
 pub use Rattle.lift_core.specs.Written
 pub use Rattle.system_shape.specs.Shape
 pub use Rattle.system_shape.specs.Solutions
-pub use Rattle.solution_files.specs.Outputs
+pub use Rattle.system_files.specs.Inputs
+pub use Rattle.system_files.specs.Files as SystemFiles
+pub use Rattle.solution_files.specs.Outputs as SolutionOutputs
 pub use Rattle.solution_files.specs.Laws
 pub use Rattle.lift_core.specs.Ends as LiftEnds
 pub use Rattle.int_vector.specs.Vectors

@@ -2,7 +2,7 @@
 use Rattle.std.specs.Prelude.{ℕ, ◌==◌, ◌&&◌, not, nat_le, Bool, false, if◌then◌else◌, List, [], ◌∷◌, ◌++◌, length, Option, None, Some, codes}
 use Rattle.std.specs.List.{list_all}
 use Rattle.tool_top.specs.declared.ends.Part.{Part}
-use Rattle.tool_top.specs.declared.ends.Part.TheVariants.{Mat, Sign, Rel, Rhs, Lat, Lb, Ub, Gra, Hil, Zhom, Zinhom, Out}
+use Rattle.tool_top.specs.declared.ends.Part.TheVariants.{Mat, Sign, Rel, Rhs, Cap, Lat, Lb, Ub, Gra, Hil, Zhom, Zinhom, Out}
 
 -- a project's name has 1 to 200 bytes, no zero byte, and no dash (45) at its front
 abbrev pub is_name : List ℕ → Bool
@@ -20,6 +20,7 @@ ending Mat = codes ".mat"
 ending Sign = codes ".sign"
 ending Rel = codes ".rel"
 ending Rhs = codes ".rhs"
+ending Cap = codes ".cap"
 ending Lat = codes ".lat"
 ending Lb = codes ".lb"
 ending Ub = codes ".ub"

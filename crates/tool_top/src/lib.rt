@@ -6,11 +6,9 @@
 #![tactic(auto)]
 
 mod ends;
-mod inputs;
 mod names;
 mod outputs;
 mod program;
-mod solving;
 mod summary;
 mod top;
 

@@ -1,19 +1,21 @@
-// The words of a command, and the names of a project's files.
-ghost use Rattle.std.specs.Prelude.{◌≡◌, ◌==◌, not, IfOk, string_bytes};
+//! The words of a command, and the names of a project's files.
+
+ghost use Rattle.std.specs.Prelude.{◌≡◌, ◌==◌, not};
 ghost use Rattle.std.specs.List.{list_all};
 ghost use Rattle.std.specs.Option.{option_map};
-ghost use Rattle.tool_top.specs.Names.{is_name, project_in, ending, file_name};
+ghost use Rattle.tool_top.specs.Names.{is_name, project_in, ending};
 
 use crate::Part;
 use outside::Words;
-use std::alloc::{AllocError, Global};
 
+// No byte is 0.
 fn has_no_zero(bytes: &[u8]) -> bool
     ensures { result ≡ list_all (λ b. not (b == 0)) bytes.now }
 {
     bytes.iter().all(|b| *b != 0)
 }
 
+// The name is one of a project.
 fn is_project(name: &[u8]) -> bool
     ensures { result ≡ is_name name.now }
 {
@@ -43,7 +45,8 @@ pub(crate) fn project(words: &Words) -> Option<&str>
     }
 }
 
-fn ending_text(part: Part) -> &'static str
+// The ending of a file's name.
+pub(crate) fn ending(part: Part) -> &'static str
     ensures { result.now ≡ ending part }
 {
     match part {
@@ -51,6 +54,7 @@ fn ending_text(part: Part) -> &'static str
         Part::Sign => ".sign",
         Part::Rel => ".rel",
         Part::Rhs => ".rhs",
+        Part::Cap => ".cap",
         Part::Lat => ".lat",
         Part::Lb => ".lb",
         Part::Ub => ".ub",
@@ -60,13 +64,4 @@ fn ending_text(part: Part) -> &'static str
         Part::Zinhom => ".zinhom",
         Part::Out => "",
     }
-}
-
-// The name of a project's file.
-pub(crate) fn name(alloc: Global, project: &str, part: Part) -> Result<String, AllocError>
-    ensures { IfOk result (λ name. string_bytes name ≡ file_name project.now part) }
-{
-    let mut name = String::from_str(alloc, project)?;
-    name.push_str(ending_text(part))?;
-    Ok(name)
 }

@@ -1,23 +1,13 @@
-// The summary on standard output.
+//! The summary on standard output.
+
 ghost use Rattle.std.specs.Prelude.{◌≡◌, OnOk, OnErr};
 ghost use Rattle.std.specs.Io.KnownBytes.{append_known};
 ghost use Rattle.outside.specs.Causes.{HasCause};
-ghost use Rattle.tool_top.specs.Ends.{MayPut, text_of_pieces, summary_of};
+ghost use Rattle.outside.specs.Pieces.{MayPut};
+ghost use Rattle.tool_top.specs.Summary.{summary_of};
 
 use itoa::Buffer;
-use outside::{PutEnd, Sink};
-
-// Puts the pieces one after another.
-fn put_pieces<O: Sink>(out: &mut O, pieces: &[&[u8]]) -> Result<(), PutEnd>
-    ensures done { OnOk result (O.held out.new ≡ append_known (O.held out.old) (text_of_pieces pieces.now)) }
-    ensures refused { OnErr result (MayPut (text_of_pieces pieces.now) (O.held out.old) (O.held out.new)) }
-    ensures cause { HasCause (O.faults out.old) (O.faults out.new) result }
-{
-    for piece in pieces {
-        out.put(piece)?;
-    }
-    Ok(())
-}
+use outside::{PutEnd, Sink, put_pieces};
 
 // Puts the line of the two numbers.
 pub(crate) fn put_summary<O: Sink>(out: &mut O, solutions: u64, pairs: u64) -> Result<(), PutEnd>
