@@ -5,3 +5,4 @@ pub mod Shelves
 pub mod Trials
 pub mod Reading
 pub mod Pieces
+pub mod Names
