@@ -6,3 +6,4 @@ pub mod Trials
 pub mod Reading
 pub mod Inside
 pub mod Pieces
+pub mod Names
