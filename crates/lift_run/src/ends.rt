@@ -3,6 +3,7 @@
 ghost use Rattle.std.specs.Prelude.{◌≡◌};
 
 use lift_core::IntRow;
+use outside::PutEnd;
 use stage_store::LiftEnd;
 use std::alloc::AllocError;
 
@@ -57,6 +58,8 @@ pub enum RunEnd {
     Pairs { stage: u32, norm: u64, needed: u64 },
     /// So many rows would be listed once this norm is closed, more than the limit.
     Rows { stage: u32, norm: u64, count: u64 },
+    /// The Keep failed, and its count of faults rose.
+    Failed,
     /// Memory was refused.
     Memory,
 }
@@ -83,6 +86,19 @@ impl From<LiftEnd> for RunEnd {
                 place: Place::Row(row),
             },
             LiftEnd::Memory => RunEnd::Memory,
+        }
+    }
+}
+
+impl From<PutEnd> for RunEnd {
+    ghost use Rattle.lift_run.specs.Lifts.{run_end_kept};
+
+    ghost from_gives = { λ e r. r ≡ run_end_kept e };
+
+    fn from(end: PutEnd) -> RunEnd {
+        match end {
+            PutEnd::Failed => RunEnd::Failed,
+            PutEnd::Memory => RunEnd::Memory,
         }
     }
 }

@@ -4,3 +4,4 @@ pub mod Ends
 pub mod Shelves
 pub mod Trials
 pub mod Reading
+pub mod Inside

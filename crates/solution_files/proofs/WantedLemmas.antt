@@ -1,14 +1,13 @@
 -- What is selected from all minimal solutions is what is wanted.
-use Rattle.std.proofs.Common.{◌≡◌, ℕ, List, length, refl, sym, subst, ◌∙◌}
-use Rattle.std.specs.Prelude.{ℤ, IsTrue, ◌↔◌}
-use Rattle.std.specs.List.{Contains}
+use Rattle.std.proofs.Common.{◌≡◌, ℕ, List, length, refl, subst}
+use Rattle.std.specs.Prelude.{ℤ}
 use Rattle.lift_core.specs.declared.Tool.{Tool}
 use Rattle.lift_core.specs.declared.Tool.TheVariants.{Graver, Hilbert, Zsolve}
-use Rattle.lift_core.specs.Systems.{ToolSystem, LinearSystem}
+use Rattle.lift_core.specs.Systems.{LinearSystem}
 use Rattle.lift_core.specs.Lists.{IsListOf}
 use Rattle.lift_core.specs.Stages.{lex_cmp}
 use Rattle.lift_core.specs.Ends.{IsSolutionList}
-use Rattle.lift_core.specs.Written.{Kind, Every, IsWrittenOf, IsWanted, IsWantedGraver, leads_negative, negated}
+use Rattle.lift_core.specs.Written.{Kind, Every, IsWrittenOf, IsWanted, IsWantedGraver, negated}
 use Rattle.solution_files.specs.Outputs.{IsProjected, IsTaken}
 
 -- the same members, the same list

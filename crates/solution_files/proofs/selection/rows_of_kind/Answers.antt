@@ -1,5 +1,5 @@
-use Rattle.std.proofs.Common.{rules, ◌≡◌, ◌<◌, ◌≤◌, ◌+◌, ◌++◌, [], ◌∷◌, List, ℕ, length, sym, ap, ◌∙◌, arith, take, Bor, ℤ, length-append, drop, subst, true}
-use Rattle.lift_core.specs.Systems.{width, InRange}
+use Rattle.std.proofs.Common.{◌≡◌, ◌<◌, ◌≤◌, ◌+◌, ◌++◌, [], ◌∷◌, length, sym, ap, ◌∙◌, arith, length-append, drop, subst, true}
+use Rattle.lift_core.specs.Systems.{InRange}
 use Rattle.lift_core.specs.Written.{HasHome}
 use Rattle.std.proofs.lemmas.List.Elements.{recursion_from_All}
 use Rattle.solution_files.specs.Outputs.{kind_of}
