@@ -9,13 +9,12 @@ use Rattle.std.specs.List.{AllByRecursion}
 use Rattle.std.proofs.lemmas.Int.{ints}
 use Rattle.std.proofs.lemmas.Bool.{cases_lt}
 use Rattle.std.proofs.Math.Nat.{mul-le-mul_right}
-use Rattle.int_vector.specs.Vectors.{norm, dot, ◌⊑◌, IsZero}
+use Rattle.int_vector.specs.Vectors.{norm, dot, ◌⊑◌, IsZero, leads_negative, negated}
 use Rattle.int_vector.proofs.Vectors.{norm_positive, nonzero_from_norm, length-below}
 use Rattle.int_vector.proofs.Numbers.{zero_parts}
-use Rattle.mat_files.specs.Matrices.{Matrix}
-use Rattle.lift_core.specs.Minimal.{IsMinimal}
-use Rattle.lift_core.specs.Sums.{IsDecomposition}
-use Rattle.lift_core.specs.Written.{leads_negative, negated}
+use Rattle.mat_files.specs.Cells.{Matrix}
+use Rattle.lift_core.specs.Systems.{IsMinimal}
+use Rattle.lift_core.specs.Inside.Decompositions.{IsDecomposition}
 use Rattle.lift_core.proofs.Minimal.{minimal_below, decompose, zero_or_not}
 use Rattle.system_files.specs.Kernel.{rows_in, IsKernelVector}
 use Rattle.system_files.specs.Basis.{IsGraverBasis}

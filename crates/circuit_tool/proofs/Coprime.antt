@@ -2,7 +2,7 @@
 use Rattle.std.proofs.Common.{◌≡◌, ℕ, List, [], ◌∷◌, length, replicate, ap, sym, ◌∙◌}
 use Rattle.std.specs.Prelude.{ℤ, pos}
 use Rattle.std.specs.List.{AllByRecursion}
-use Rattle.int_vector.specs.Vectors.{add, total}
+use Rattle.int_vector.specs.Operations.{add, total}
 use Rattle.circuit_tool.specs.Circuits.{scaled}
 use Rattle.circuit_tool.proofs.Scaling.{add-scaled, scaled_nothing}
 

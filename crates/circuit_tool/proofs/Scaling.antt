@@ -6,7 +6,8 @@ use Rattle.std.proofs.lemmas.Int.{ints}
 use borrow.Author.Differences.{up, down, same_in, product_is}
 use Rattle.std.proofs.lemmas.Bool.{cases_lt}
 use Rattle.std.proofs.Math.Nat.{mul-le-mul_left, mul-le-mul_right}
-use Rattle.int_vector.specs.Vectors.{norm, dot, add, subtract, IsWithin, ◌⊑◌, IsZero}
+use Rattle.int_vector.specs.Vectors.{norm, dot, IsWithin, ◌⊑◌, IsZero}
+use Rattle.int_vector.specs.Operations.{add, subtract}
 use Rattle.int_vector.proofs.Numbers.{same_sign_within, mul-add}
 use Rattle.system_files.specs.Kernel.{IsInKernel}
 use Rattle.circuit_tool.specs.Circuits.{IsWithinSupport, scaled}

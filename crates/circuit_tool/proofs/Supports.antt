@@ -2,9 +2,8 @@
 use Rattle.std.proofs.Common.{◌≡◌, ℕ, zero, suc, ◌<◌, List, [], ◌∷◌, length, get_or, ap, arith, inl, inr, ◌⊎◌}
 use Rattle.std.specs.Prelude.{ℤ, pos, neg_ℤ, nat_abs}
 use Rattle.std.proofs.lemmas.Int.{ints}
-use Rattle.int_vector.specs.Vectors.{IsWithin, ◌⊑◌, IsZero}
+use Rattle.int_vector.specs.Vectors.{IsWithin, ◌⊑◌, IsZero, negated}
 use Rattle.int_vector.proofs.Numbers.{zero_parts}
-use Rattle.lift_core.specs.Written.{negated}
 use Rattle.lift_core.proofs.Systems.{test_zip, test_same}
 use Rattle.circuit_tool.specs.Circuits.{IsWithinSupport}
 

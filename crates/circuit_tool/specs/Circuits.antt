@@ -1,10 +1,8 @@
 -- Supports, circuits, and the rows of a set that have least support.
 use Rattle.std.specs.Prelude.{◌≡◌, ◌≤◌, ℕ, List, ℤ, pos, ◌*ℤ◌, map, IsTrue}
 use Rattle.std.specs.List.{AllZip, Contains}
-use Rattle.int_vector.specs.Vectors.{IsZero}
+use Rattle.int_vector.specs.Vectors.{IsZero, lex_cmp, leads_negative}
 use Rattle.lift_core.specs.Lists.{IsListOf}
-use Rattle.lift_core.specs.Stages.{lex_cmp}
-use Rattle.lift_core.specs.Written.{leads_negative}
 use Rattle.system_files.specs.Kernel.{IsKernelVector}
 
 -- the support of a vector is the columns where it is not 0: u's is within v's where u is 0 in each column in which v is

@@ -1,6 +1,6 @@
 -- The law of circuits, over the definitions alone.
 use Rattle.std.specs.Prelude.{List, ℤ}
-use Rattle.mat_files.specs.Matrices.{Matrix}
+use Rattle.mat_files.specs.Cells.{Matrix}
 use Rattle.system_files.specs.Kernel.{rows_in}
 use Rattle.system_files.specs.Basis.{IsGraverBasis}
 use Rattle.circuit_tool.specs.Circuits.{AreLeastRows, AreCircuits}

@@ -7,13 +7,13 @@ use Rattle.std.specs.List.{AllByRecursion, Contains}
 use Rattle.std.proofs.lemmas.Int.{ints}
 use Rattle.std.proofs.lemmas.List.Elements.{length_all_zip}
 use borrow.Author.Differences.{up, down, same_in, product_is}
-use Rattle.int_vector.specs.Vectors.{dot, add, subtract, total, IsWithin, ◌⊑◌}
+use Rattle.int_vector.specs.Vectors.{dot, IsWithin, ◌⊑◌, negated}
+use Rattle.int_vector.specs.Operations.{add, subtract, total}
 use Rattle.int_vector.proofs.Vectors.{dot-add, dot-subtract, length-below}
 use Rattle.int_vector.proofs.Numbers.{mul-add, within_parts}
-use Rattle.mat_files.specs.Matrices.{Matrix}
-use Rattle.lift_core.specs.Minimal.{IsMinimal}
-use Rattle.lift_core.specs.Sums.{IsDecomposition}
-use Rattle.lift_core.specs.Written.{negated}
+use Rattle.mat_files.specs.Cells.{Matrix}
+use Rattle.lift_core.specs.Systems.{IsMinimal}
+use Rattle.lift_core.specs.Inside.Decompositions.{IsDecomposition}
 use Rattle.lift_core.proofs.Minimal.{decompose}
 use Rattle.lift_core.proofs.Lists.{contains_cases, contains_head, contains_tail, contains_nothing, each_contained}
 use Rattle.lift_core.proofs.Systems.{test_at_most}

@@ -1,6 +1,6 @@
 -- The laws of steps, over the definitions alone.
 use Rattle.std.specs.Prelude.{◌≡◌, List, ℤ, ◌<ℤ◌, length}
-use Rattle.mat_files.specs.Matrices.{Matrix}
+use Rattle.mat_files.specs.Cells.{Matrix}
 use Rattle.int_vector.specs.Vectors.{dot}
 use Rattle.system_files.specs.Kernel.{rows_in}
 use Rattle.system_files.specs.Basis.{IsGraverBasis}

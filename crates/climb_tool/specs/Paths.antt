@@ -1,8 +1,8 @@
 -- Feasible points, the steps between them, and optimal points.
 use Rattle.std.specs.Prelude.{◌≡◌, ◌≤◌, ℕ, List, [], ◌∷◌, ◌++◌, ℤ, pos, ◌*ℤ◌, ◌≤ℤ◌, ◌<ℤ◌, map}
 use Rattle.std.specs.List.{AllZip, AllByRecursion}
-use Rattle.int_vector.specs.Vectors.{add, dot}
-use Rattle.lift_core.specs.Written.{negated}
+use Rattle.int_vector.specs.Operations.{add}
+use Rattle.int_vector.specs.Vectors.{dot, negated}
 
 -- each entry of x is from 0 to its bound
 abbrev pub IsWithinBounds : List ℤ → List ℤ → Type 0

@@ -1,20 +1,20 @@
 -- In a machine that is closed each block stands in the book exactly once, and so the sums of the book are all sums.
 -- Between any two events each number below the next one stands once in the book or with one pass, and no other does.
 use Rattle.std.proofs.Common.{◌≡◌, ℕ, ◌+◌, ◌*◌, ◌/◌, ◌≤◌, ◌<◌, List, [], ◌∷◌, ◌++◌, length, get_or, refl, ◌∙◌, sym, subst, arith, Bool, true, false, take, suc}
-use Rattle.std.specs.Prelude.{ℤ}
+use Rattle.std.specs.Prelude.{ℤ, Err}
 use Rattle.std.specs.List.{Contains}
 use mathlib.Core.Logic.{dite}
 use native.Mathlib.Decide.{ℕ_discrete, dec_le}
 use Rattle.lift_core.specs.Systems.{LinearSystem}
 use Rattle.lift_core.specs.Lists.{IsListOf}
-use Rattle.lift_core.specs.Stages.{norm_cmp, stage_norm, IsPair, IsNewSum}
+use Rattle.lift_core.specs.Stages.{norm_cmp, stage_norm, IsPair}
+use Rattle.lift_core.specs.Inside.PairSums.{IsNewSum}
 use Rattle.lift_core.specs.Times.{times, total_of, once_below}
 use Rattle.lift_core.specs.PureMachine.{CoreState, core_start, held_at, IsAllowed, after, Runs, no_event, one_event, Steps, IsRefused, StopsAt, AreNumbered, IsSumInBlock, IsSumsOf}
 use Rattle.lift_core.specs.declared.machine.Event.{Event}
 use Rattle.lift_core.specs.declared.machine.Event.TheVariants.{Draw, Put, Close}
 use Rattle.lift_core.specs.declared.machine.StepEnd.{StepEnd}
 use Rattle.lift_core.specs.declared.machine.StepEnd.TheVariants.{NotAllowed, Memory}
-use Rattle.std.specs.Prelude.{Err}
 use Rattle.std.proofs.Math.Seq.{take-suc}
 use Rattle.std.proofs.lemmas.List.{get_or_default}
 use Rattle.lift_core.proofs.Times.{times-append, times_same, times_other, once_yes, once_no, contained_times, total-set_at, total-replicate_zero}

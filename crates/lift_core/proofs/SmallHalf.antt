@@ -5,7 +5,8 @@ use Rattle.std.proofs.Common.{◌≡◌, ℕ, zero, suc, ◌+◌, ◌-◌, ◌*�
 use Rattle.std.specs.Prelude.{ℤ, nat_abs, ◌-ℤ◌, ◌↔◌}
 use Rattle.std.specs.List.{Contains}
 use Rattle.std.proofs.lemmas.Bool.{cases_lt}
-use Rattle.int_vector.specs.Vectors.{norm, ◌⊑◌, IsWithin, subtract}
+use Rattle.int_vector.specs.Vectors.{norm, ◌⊑◌, IsWithin}
+use Rattle.int_vector.specs.Operations.{subtract}
 use Rattle.int_vector.proofs.Numbers.{nat_abs-parts, parts_of_difference}
 use Rattle.int_vector.proofs.Vectors.{below_trans, below_same, difference_below, difference_norm, zero_norm}
 use Rattle.lift_core.specs.Systems.{LinearSystem, row, Solves}

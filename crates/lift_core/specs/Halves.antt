@@ -1,7 +1,8 @@
 -- The law of halves: a search for a row below a vector need only look at those with at most half of a measure.
 use Rattle.std.specs.Prelude.{◌≡◌, ℕ, ◌+◌, ◌*◌, ◌≤◌, ◌↔◌, List, ℤ, pos, nat_abs, slice_index_or}
 use Rattle.std.specs.List.{Contains}
-use Rattle.int_vector.specs.Vectors.{◌⊑◌, subtract}
+use Rattle.int_vector.specs.Vectors.{◌⊑◌}
+use Rattle.int_vector.specs.Operations.{subtract}
 use Rattle.lift_core.specs.Systems.{LinearSystem}
 use Rattle.lift_core.specs.Stages.{stage_norm, IsStageVector, IsListed, IsWaiting, IsNextNorm}
 

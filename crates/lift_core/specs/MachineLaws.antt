@@ -2,7 +2,8 @@
 use Rattle.std.specs.Prelude.{◌≡◌, ℕ, ◌+◌, ◌*◌, ◌≤◌, List, ℤ, true, length}
 use Rattle.lift_core.specs.Systems.{LinearSystem}
 use Rattle.lift_core.specs.Lists.{IsListOf}
-use Rattle.lift_core.specs.Stages.{norm_cmp, IsNewSum}
+use Rattle.lift_core.specs.Stages.{norm_cmp}
+use Rattle.lift_core.specs.Inside.PairSums.{IsNewSum}
 use Rattle.lift_core.specs.Times.{times, total_of, once_below}
 use Rattle.lift_core.specs.PureMachine.{CoreState, core_start, Runs, AreNumbered, IsSumsOf}
 use Rattle.lift_core.specs.declared.machine.Event.{Event}

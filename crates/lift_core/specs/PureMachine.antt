@@ -1,10 +1,11 @@
 -- The pure machine of one norm: passes draw the numbers of blocks, put them into one book, and the book is closed.
 use Rattle.std.specs.Prelude.{◌≡◌, ℕ, ◌+◌, ◌*◌, ◌<◌, ◌≤◌, List, [], ◌∷◌, ◌++◌, ℤ, Bool, true, false, length, take, slice_index_or, slice_set, replicate, ◌↔◌, Result, Ok, Err}
 use Rattle.std.specs.List.{Contains}
-use Rattle.int_vector.specs.Vectors.{add}
+use Rattle.int_vector.specs.Operations.{add}
 use Rattle.lift_core.specs.Systems.{LinearSystem}
 use Rattle.lift_core.specs.Lists.{IsListOf}
-use Rattle.lift_core.specs.Stages.{norm_cmp, stage_norm, IsPair, HasSum, IsIrreducible}
+use Rattle.lift_core.specs.Stages.{norm_cmp, stage_norm, IsPair}
+use Rattle.lift_core.specs.Inside.PairSums.{HasSum, IsIrreducible}
 use Rattle.lift_core.specs.declared.machine.Event.{Event}
 use Rattle.lift_core.specs.declared.machine.Event.TheVariants.{Draw, Put, Close}
 use Rattle.lift_core.specs.declared.machine.StepEnd.{StepEnd}

@@ -5,7 +5,8 @@ use Rattle.std.specs.Prelude.{ℤ, Ok, Result}
 use Rattle.std.specs.List.{AllByRecursion}
 use Rattle.lift_core.specs.Systems.{LinearSystem, ToolSystem}
 use Rattle.lift_core.specs.Stages.{IsListed, IsWaiting, IsStageList, AreUsed, ArePairsBefore, all_pairs, HasNoNextNorm, IsNextNorm}
-use Rattle.lift_core.specs.Ends.{Limits, End, Lists, EndsIn, by_norm_overflow, by_pairs_spent, by_rows_spent, by_closing, by_row_overflow, by_next_stage, by_finish, WalkEnds, walk_norm_overflow, walk_pairs_spent, walk_rows_spent, walk_closing, walk_row_overflow, walk_next_stage, walk_finish, IsSolutionList, IsGrown, solutions_in, used_up_to}
+use Rattle.lift_core.specs.Ends.{Limits, End, ListsAt, EndsIn, by_norm_overflow, by_pairs_spent, by_rows_spent, by_closing, by_row_overflow, by_next_stage, by_finish, IsSolutionList}
+use Rattle.lift_core.specs.Inside.Walks.{WalkEnds, walk_norm_overflow, walk_pairs_spent, walk_rows_spent, walk_closing, walk_row_overflow, walk_next_stage, walk_finish, IsGrown, solutions_in, used_up_to}
 use Rattle.lift_core.proofs.Growth.{complete}
 use Rattle.lift_core.proofs.Places.{grown_listed, used_next, all_used, solutions_are, nothing_listed, solutions_wait}
 use Rattle.lift_core.proofs.Grown.{grown_exists}
@@ -20,7 +21,7 @@ use Rattle.lift_run.specs.Keeps.{IsClosing, Leads, leads_nowhere, leads_on, lead
 use Rattle.lift_run.specs.Places.{closed_places, IsStageAt, AreStagesAt}
 
 -- ---- an end that is met with no norm closed
-lists : (S : LinearSystem) (k d : ℕ) (listed waiting : List (List ℤ)) → IsListed S k d listed → IsWaiting S k d waiting → Lists S k d
+lists : (S : LinearSystem) (k d : ℕ) (listed waiting : List (List ℤ)) → IsListed S k d listed → IsWaiting S k d waiting → ListsAt S k d
 lists S k d listed waiting l q = record { listed = listed; waiting = waiting; is_listed = l; is_waiting = q }
 
 -- the pairs used at norm 0 of the next stage are those of the finished one

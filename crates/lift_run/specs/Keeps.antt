@@ -4,8 +4,9 @@ use Rattle.std.specs.Option.{option_map}
 use Rattle.std.specs.List.{fold}
 use Rattle.outside.specs.Causes.{Rose}
 use Rattle.lift_core.specs.Stages.{IsNextNorm, HasNoNextNorm}
-use Rattle.lift_core.specs.Ends.{End, largest, used_up_to}
-use Rattle.lift_core.specs.Ends.{Limits as Bounds}
+use Rattle.lift_core.specs.Ends.{End, Limits as Bounds}
+use Rattle.int_vector.specs.Range.{largest}
+use Rattle.lift_core.specs.Inside.Walks.{used_up_to}
 use Rattle.stage_store.specs.Stage.{StageValue, used_of}
 use Rattle.stage_store.specs.Lifted.{IsLift}
 use Rattle.stage_store.specs.Published.{IsPublished}

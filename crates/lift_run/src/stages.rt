@@ -1,7 +1,7 @@
 //! The run over the norms of a stage, and over the stages.
 
 ghost use Rattle.std.specs.Prelude.{◌≡◌, ◌≤◌, length, is_some, IfOk, IfSome};
-ghost use Rattle.lift_core.specs.Systems.{width};
+ghost use Rattle.lift_core.specs.ToolSystems.{width};
 ghost use Rattle.lift_core.specs.Ends.{RunEnds, IsSolutionList};
 ghost use Rattle.stage_store.specs.Lifted.{IsLiftedDefined};
 ghost use Rattle.lift_run.specs.Runs.{bounds, end_of, AnswersWalk, AnswersEnd, KeepsSystem, HasAllSolutions};

@@ -7,7 +7,8 @@ use Rattle.hex.specs.Hex.{encode_lower}
 use Rattle.mat_files.specs.Texts.{line_of}
 use Rattle.lift_core.specs.declared.Tool.{Tool}
 use Rattle.lift_core.specs.declared.Tool.TheVariants.{Graver, Hilbert, Zsolve}
-use Rattle.lift_core.specs.Systems.{ToolSystem, width}
+use Rattle.lift_core.specs.Systems.{ToolSystem}
+use Rattle.lift_core.specs.ToolSystems.{width}
 use Rattle.lift_core.specs.Stages.{last, has_positive_last, has_negative_last}
 use Rattle.stage_store.specs.Stage.{StageValue, used_of}
 use Rattle.restart_file.specs.declared.lines.Version.{Version}

@@ -2,8 +2,9 @@
 use Rattle.std.proofs.Common.{◌≡◌, ◌<◌, ◌≤◌, ◌+◌, ◌-◌, ◌*◌, zero, suc, arith, subst, ℕ, List, [], ◌++◌, take, drop, Option, sym, ap, ap₂, ◌∙◌, SFits, w64, to_z, of_z, to_z-of_z}
 use Rattle.std.specs.Prelude.{ℤ, pos, ◌∷◌}
 use Rattle.std.specs.Option.{option_map}
-use Rattle.mat_files.specs.Texts.{head_of, line_of, lines_of, text_of}
-use Rattle.mat_files.specs.Matrices.{Matrix}
+use Rattle.mat_files.specs.Texts.{head_of, line_of}
+use Rattle.mat_files.specs.Printed.{lines_of, text_of}
+use Rattle.mat_files.specs.Cells.{Matrix}
 use Rattle.outside.specs.Files.{Files, begun, appended, MayAppend, written, MayWrite}
 use Rattle.outside.specs.Inside.Writing.{IsPartWritten}
 use Rattle.outside.proofs.Writing.{part_begun, part_more, part_whole, part_refused}

@@ -2,15 +2,16 @@
 use Rattle.std.specs.Prelude.{◌≡◌, ℕ, ℤ, List, ◌++◌, length, take, IsTrue}
 use Rattle.std.specs.List.{Contains, AllByRecursion, flat_map}
 pub use Rattle.outside.specs.Files.{written, MayWrite}
-use Rattle.mat_files.specs.Matrices.{Matrix}
+use Rattle.mat_files.specs.Cells.{Matrix}
 use Rattle.mat_files.specs.Texts.{head_of, line_of}
 use Rattle.lift_core.specs.declared.Tool.{Tool}
 use Rattle.lift_core.specs.declared.Tool.TheVariants.{Graver, Hilbert, Zsolve}
 use Rattle.lift_core.specs.Systems.{ToolSystem}
 use Rattle.lift_core.specs.Lists.{IsListOf}
-use Rattle.lift_core.specs.Stages.{lex_cmp}
-use Rattle.lift_core.specs.Written.{HasHome, Homogeneous, Inhomogeneous, Every, leads_negative, negated}
-use Rattle.lift_core.specs.Written as core
+use Rattle.int_vector.specs.Vectors.{lex_cmp, leads_negative, negated}
+use Rattle.lift_core.specs.Inside.Written.{HasX0}
+use Rattle.lift_core.specs.Columns.{Homogeneous, Inhomogeneous, Every}
+use Rattle.lift_core.specs.Columns as core
 use Rattle.solution_files.specs.declared.selection.Kind.{Kind}
 use Rattle.solution_files.specs.declared.selection.Kind.TheVariants.{All, Hom, Inhom}
 
@@ -24,7 +25,7 @@ kind_of Inhom = Inhomogeneous
 pub record IsProjected (finished : List (List ℤ)) (n : ℕ) (kind : core.Kind) (x : List ℤ) : Type 0 where
   pub solution : List ℤ
   pub among : Contains finished solution
-  pub home : HasHome kind solution
+  pub home : HasX0 kind solution
   pub is : x ≡ take n solution
 
 -- these are taken; for Graver sets, of a vector and its negative, where both are there, the one that leads positive

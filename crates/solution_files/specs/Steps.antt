@@ -5,9 +5,10 @@ use Rattle.std.specs.List.{Contains, AllByRecursion, filter, list_any}
 use Rattle.std.specs.List.Sorted.{IsStrictlySortedBy}
 use Rattle.std.specs.Ordering.{int_eq}
 use Rattle.std.specs.Cmp.Lexicographic.{pointwise}
-use Rattle.lift_core.specs.Systems.{InRange}
-use Rattle.lift_core.specs.Stages.{last, lex_cmp}
-use Rattle.lift_core.specs.Written.{Kind, Homogeneous, Inhomogeneous, Every, leads_negative, negated}
+use Rattle.int_vector.specs.Range.{InRange}
+use Rattle.lift_core.specs.Stages.{last}
+use Rattle.int_vector.specs.Vectors.{lex_cmp, leads_negative, negated}
+use Rattle.lift_core.specs.Columns.{Kind, Homogeneous, Inhomogeneous, Every}
 
 -- the rows behind references
 abbrev pub rows_behind : List (Bor (List ℤ)) → List (List ℤ)

@@ -5,7 +5,8 @@ ghost use Rattle.std.specs.Option.{option_map};
 ghost use Rattle.outside.specs.Causes.{HasCause};
 ghost use Rattle.outside.specs.Files.{Files, appended, MayAppend, written, MayWrite};
 ghost use Rattle.outside.specs.Inside.Writing.{IsPartWritten};
-ghost use Rattle.mat_files.specs.Texts.{line_of, lines_of, text_of};
+ghost use Rattle.mat_files.specs.Texts.{line_of};
+ghost use Rattle.mat_files.specs.Printed.{lines_of, text_of};
 
 use mat_files::{Grid, print_line};
 use outside::{Folder, PutEnd};

@@ -2,9 +2,11 @@
 ghost use Rattle.std.specs.Prelude.{◌≡◌, ◌↔◌, ◌<◌, ◌≤◌, ◌^◌, length, neg_ℤ, IfOk, IsTrue};
 ghost use Rattle.std.specs.List.{AllByRecursion};
 ghost use Rattle.std.specs.List.Sorted.{IsStrictlySortedBy};
-ghost use Rattle.lift_core.specs.Systems.{width, InRange};
-ghost use Rattle.lift_core.specs.Stages.{last, lex_cmp};
-ghost use Rattle.lift_core.specs.Written.{HasHome, leads_negative, negated};
+ghost use Rattle.lift_core.specs.ToolSystems.{width};
+ghost use Rattle.int_vector.specs.Range.{InRange};
+ghost use Rattle.lift_core.specs.Stages.{last};
+ghost use Rattle.int_vector.specs.Vectors.{lex_cmp, leads_negative, negated};
+ghost use Rattle.lift_core.specs.Inside.Written.{HasX0};
 ghost use Rattle.solution_files.specs.Outputs.{kind_of, grid_of, IsSelected, IsSelection};
 ghost use Rattle.solution_files.specs.Steps.{rows_behind, projected, AreRows, IsOrdered, is_among, is_left_out, without_negatives};
 
@@ -37,7 +39,7 @@ fn last_entry(row: &[i64]) -> i64
 // Whether the last entry is that of the kind.
 fn is_of_kind(row: &[i64], kind: Kind) -> bool
     requires { 0 < length row.now }
-    ensures { IsTrue result ↔ HasHome (kind_of kind) row.now }
+    ensures { IsTrue result ↔ HasX0 (kind_of kind) row.now }
 {
     match kind {
         Kind::All => true,

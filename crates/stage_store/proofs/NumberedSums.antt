@@ -4,8 +4,9 @@ use Rattle.std.specs.Prelude.{ℤ}
 use Rattle.std.specs.List.{Contains}
 use Rattle.std.proofs.lemmas.Bool.{cases_lt}
 use Rattle.std.proofs.lemmas.List.Elements.{Contains-append_left, Contains-append_right, Contains-append_cases, Contains-get_or}
-use Rattle.int_vector.specs.Vectors.{◌⊑◌, add}
-use Rattle.lift_core.specs.Stages.{HasSum, IsIrreducible}
+use Rattle.int_vector.specs.Vectors.{◌⊑◌}
+use Rattle.int_vector.specs.Operations.{add}
+use Rattle.lift_core.specs.Inside.PairSums.{HasSum, IsIrreducible}
 use Rattle.lift_core.proofs.Lists.{contains_cases, contains_head, contains_nothing}
 use Rattle.stage_store.specs.Stage.{StageValue}
 use Rattle.stage_store.specs.Classes.{row_at, IsPairAt}

@@ -1,7 +1,7 @@
 //! The irreducible sums of numbered pairs, and what a worker remembers on the way.
 
 ghost use Rattle.std.specs.Prelude.{◌≡◌, ◌≤◌, ◌<◌, ◌+◌, length};
-ghost use Rattle.lift_core.specs.Systems.{width};
+ghost use Rattle.lift_core.specs.ToolSystems.{width};
 ghost use Rattle.stage_store.specs.Classes.{pairs_of};
 ghost use Rattle.stage_store.specs.Numbered.{GainsNumbered};
 

@@ -4,16 +4,15 @@ use Rattle.std.proofs.Common.{◌≡◌, ℕ, zero, suc, List, [], ◌∷◌, �
 use Rattle.std.specs.Prelude.{ℤ, pos, ◌*ℤ◌, None, IsTrue}
 use Rattle.std.specs.List.{AllZip, AllByRecursion, Contains}
 use Rattle.std.proofs.lemmas.List.Elements.{length_all_zip}
-use Rattle.int_vector.specs.Vectors.{◌⊑◌, dot, IsZero}
-use Rattle.mat_files.specs.Matrices.{Matrix}
+use Rattle.int_vector.specs.Vectors.{◌⊑◌, dot, IsZero, negated, leads_negative}
+use Rattle.mat_files.specs.Cells.{Matrix}
 use Rattle.mat_files.specs.declared.relations.Rel.TheVariants.{Equal}
-use Rattle.lift_core.specs.Systems.{HasSign, IsCapped}
-use Rattle.lift_core.specs.Minimal.{IsMinimal}
-use Rattle.lift_core.specs.Written.{Every, negated, leads_negative}
+use Rattle.lift_core.specs.Columns.{HasSign, IsCapped, Every}
+use Rattle.lift_core.specs.Systems.{IsMinimal}
 use Rattle.lift_core.proofs.Written.{one_leads_negative}
-use Rattle.lift_core.proofs.Cells.{length-rows_of}
-use Rattle.system_shape.specs.Shape.{UserSystem, Stands, user_rows, slacks, full_vector}
-use Rattle.system_shape.specs.Solutions.{IsUserSolution, IsWrittenForUser}
+use Rattle.lift_core.proofs.Cells.{length-cut_rows}
+use Rattle.system_shape.specs.Problem.{UserSystem, Stands, differences, full_vector, IsUserSolution, IsWrittenForUser}
+use Rattle.system_shape.specs.Shape.{user_rows}
 use Rattle.system_files.specs.Kernel.{rows_in, IsInKernel, IsKernelVector}
 use Rattle.system_files.specs.Basis.{IsGraverBasis}
 use Rattle.system_files.proofs.Kernels.{minimal_negated}
@@ -50,7 +49,7 @@ rows_give m [] v h k = tt
 rows_give zero (r ∷ rows) v h k = absurd (omega arith)
 rows_give (suc m) (r ∷ rows) v h k = (k.0, rows_give m rows v (omega arith) k.1)
 
-no_slacks : (m : ℕ) (rows : List (List ℤ)) (c : ℤ) (v : List ℤ) → slacks (user_rows rows (replicate m Equal) (replicate m (pos 0))) c v ≡ []
+no_slacks : (m : ℕ) (rows : List (List ℤ)) (c : ℤ) (v : List ℤ) → differences (user_rows rows (replicate m Equal) (replicate m (pos 0))) c v ≡ []
 no_slacks m [] c v = refl
 no_slacks zero (r ∷ rows) c v = refl
 no_slacks (suc m) (r ∷ rows) c v = no_slacks m rows c v
@@ -116,7 +115,7 @@ not_true b e h = cc
 
 pub basis_is_half : (mat : Matrix) (set : List (List ℤ)) → IsGraverBasis mat set → IsHalf mat.cols (rows_in mat) set
 basis_is_half mat set h =
-    let count : length (rows_in mat) ≡ mat.rows = length-rows_of mat.rows mat.cols mat.cells in record {
+    let count : length (rows_in mat) ≡ mat.rows = length-cut_rows mat.rows mat.cols mat.cells in record {
       minimal = λ v c. minimal_from_user mat.cols mat.rows (rows_in mat) count v ((h.members v).0 c).0;
       positive = λ v c.
           let m = minimal_from_user mat.cols mat.rows (rows_in mat) count v ((h.members v).0 c).0 in

@@ -2,7 +2,7 @@
 ghost use Rattle.std.specs.Prelude.{◌≡◌, ◌++◌, OnOk, OnErr};
 ghost use Rattle.std.specs.Option.{option_map};
 ghost use Rattle.outside.specs.Causes.{HasCause};
-ghost use Rattle.mat_files.specs.Texts.{text_of};
+ghost use Rattle.mat_files.specs.Printed.{text_of};
 ghost use Rattle.solution_files.specs.Outputs.{written, MayWrite};
 
 use mat_files::Grid;

@@ -1,6 +1,6 @@
 use Rattle.std.proofs.Common.{◌≡◌, ◌≤◌, ◌-◌, ◌*◌, ℕ, List, Option, length}
 use Rattle.outside.specs.Files.{Files}
-use Rattle.mat_files.specs.Texts.{lines_of}
+use Rattle.mat_files.specs.Printed.{lines_of}
 use Rattle.outside.specs.Inside.Writing.{IsPartWritten}
 use Rattle.solution_files.proofs.output.append_rows.Given as goal
 
