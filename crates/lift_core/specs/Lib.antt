@@ -4,8 +4,6 @@ pub mod Systems
 pub mod ToolSystems
 pub mod Stages
 pub mod Ends
-pub mod Units
-pub mod Written
 pub mod Times
 pub mod PureMachine
 pub mod MachineLaws
