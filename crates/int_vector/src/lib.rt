@@ -97,7 +97,7 @@ pub fn conformal(u: &[i64], v: &[i64]) -> bool
 fn are_opposite(x: i64, y: i64) -> bool
     ensures { IsTrue result ↔ ((x *ℤ y) <ℤ pos 0) }
 {
-    // the product always has room in 128 bits, and to ask its sign is a single branch
+    // The product always has room in 128 bits, and to ask its sign is a single branch.
     (x as i128 * y as i128) < 0
 }
 

@@ -30,7 +30,8 @@ pub record AreCaps (tool : Tool) (n : ℕ) (caps : List (Option ℕ)) : Type 0 w
 abbrev pub HasRoomForX0 : Tool → ℕ → List ℤ → Type 0
 HasRoomForX0 Graver n signs = ⊤
 HasRoomForX0 Hilbert n signs = ⊤
-HasRoomForX0 Zsolve n signs = (n < length signs) × (slice_index_or signs (length signs - 1) (pos 0) ≡ pos 1)
+HasRoomForX0 Zsolve n signs =
+    (n < length signs) × (slice_index_or signs (length signs - 1) (pos 0) ≡ pos 1)
 
 -- what is true of the system of every run
 pub record IsToolSystem (T : ToolSystem) : Type 0 where

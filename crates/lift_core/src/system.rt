@@ -7,7 +7,7 @@ ghost use Rattle.int_vector.specs.Operations.{add};
 ghost use Rattle.lift_core.specs.ToolSystems.{width, IsSign, AreCaps, IsToolSystem, HasRoomForX0, built_system};
 ghost use Rattle.lift_core.specs.Systems.{row, ObeysSigns, ObeysCaps};
 ghost use Rattle.lift_core.specs.Columns.{HasSign, IsCapped};
-ghost use Rattle.int_vector.specs.Range.{InRange};
+ghost use Rattle.int_vector.specs.Range.{largest, InRange};
 ghost use Rattle.lift_core.specs.Inside.Capped.{capped_from};
 ghost use Rattle.lift_core.specs.Inside.Written.{x0_of};
 
@@ -45,7 +45,8 @@ impl Model for System {
 
     ghost view = { λ s. built_system s.tool s.n s.signs.items s.caps.items s.count s.cells.items };
 
-    ghost invariant = { λ s. IsToolSystem (built_system s.tool s.n s.signs.items s.caps.items s.count s.cells.items)
+    ghost invariant = { λ s. IsToolSystem
+        (built_system s.tool s.n s.signs.items s.caps.items s.count s.cells.items)
         × (length s.cells.items ≡ s.count * length s.signs.items)
         × (s.capped ≡ capped_from 0 s.caps.items) };
 }
@@ -121,7 +122,7 @@ impl System {
         self.row_at(k as usize - 1)
     }
 
-    // the row at a place, numbered from 0
+    // The row at a place, numbered from 0.
     #[tactic(auto, using(crate::proofs::Cells::row_laws))]
     fn row_at(&self, place: usize) -> &[i64]
         requires { place < length self.now.equations.rows }
@@ -137,7 +138,8 @@ impl System {
     /// Whether v obeys the signs and the caps.
     pub fn obeys(&self, v: &[i64]) -> bool
         requires { length v.now ≡ width self.now.equations }
-        ensures { IsTrue result ↔ (ObeysSigns self.now.equations v.now × ObeysCaps self.now.equations v.now) }
+        ensures { IsTrue result
+            ↔ (ObeysSigns self.now.equations v.now × ObeysCaps self.now.equations v.now) }
     {
         has_signs(&self.signs, v) && self.obeys_caps(v)
     }
@@ -165,8 +167,9 @@ impl System {
     pub fn solves(&self, k: u32, v: &[i64]) -> bool
         requires rows { k ≤ length self.now.equations.rows }
         requires width { length v.now ≡ width self.now.equations }
-        requires norm { norm v.now ≤ 9223372036854775807 }
-        ensures { IsTrue result ↔ AllByRecursion (λ r. dot r v.now ≡ pos 0) (take k self.now.equations.rows) }
+        requires norm { norm v.now ≤ largest }
+        ensures { IsTrue result
+            ↔ AllByRecursion (λ r. dot r v.now ≡ pos 0) (take k self.now.equations.rows) }
     {
         for i in 0..k {
             if dot(self.row(i + 1), v) != Some(0) {
@@ -207,12 +210,14 @@ impl System {
         caps: Vec<Option<u64>>,
     ) -> System
         requires columns { (1 ≤ n) × (n ≤ 64) × (n ≤ width) × (width ≤ 129) }
-        requires lengths { (length signs.items ≡ width) × (length rows.items % width ≡ 0) × (length rows.items ≤ 64 * width) }
+        requires lengths { (length signs.items ≡ width) × (length rows.items % width ≡ 0)
+            × (length rows.items ≤ 64 * width) }
         requires range { All InRange rows.items }
         requires signs { All IsSign signs.items }
         requires caps { (length caps.items ≡ width) × AreCaps tool n caps.items }
         requires x0 { HasRoomForX0 tool n signs.items }
-        ensures { result ≡ built_system tool n signs.items caps.items (length rows.items / width) rows.items }
+        ensures { result
+            ≡ built_system tool n signs.items caps.items (length rows.items / width) rows.items }
     {
         System {
             tool,
@@ -249,7 +254,8 @@ impl System {
 
     fn same_columns(&self, other: &System) -> bool
         ensures { IsTrue result ↔ ((self.now.tool ≡ other.now.tool) × (self.now.n ≡ other.now.n)
-            × (self.now.equations.signs ≡ other.now.equations.signs) × (self.now.equations.caps ≡ other.now.equations.caps)) }
+            × (self.now.equations.signs ≡ other.now.equations.signs)
+            × (self.now.equations.caps ≡ other.now.equations.caps)) }
     {
         self.tool == other.tool
             && self.n == other.n
@@ -265,7 +271,7 @@ impl System {
     }
 }
 
-// whether each entry has its sign
+// Whether each entry has its sign.
 fn has_signs(signs: &[i8], v: &[i64]) -> bool
     requires { length signs.now ≡ length v.now }
     ensures { IsTrue result ↔ AllZip HasSign signs.now v.now }
@@ -284,21 +290,21 @@ fn has_signs(signs: &[i8], v: &[i64]) -> bool
     true
 }
 
-// whether the signs are the same
+// Whether the signs are the same.
 fn same_signs(signs: &[i8], others: &[i8]) -> bool
     ensures { IsTrue result ↔ (signs.now ≡ others.now) }
 {
     signs == others
 }
 
-// whether the caps are the same
+// Whether the caps are the same.
 fn same_caps(caps: &[Option<u64>], others: &[Option<u64>]) -> bool
     ensures { IsTrue result ↔ (caps.now ≡ others.now) }
 {
     caps == others
 }
 
-// whether the absolute value is at most the cap, where there is one
+// Whether the absolute value is at most the cap, where there is one.
 fn is_capped(cap: Option<u64>, x: i64) -> bool
     ensures { IsTrue result ↔ IsCapped cap x }
 {
@@ -308,7 +314,7 @@ fn is_capped(cap: Option<u64>, x: i64) -> bool
     }
 }
 
-// whether each entry is within its cap
+// Whether each entry is within its cap.
 fn has_caps(caps: &[Option<u64>], v: &[i64]) -> bool
     requires { length caps.now ≡ length v.now }
     ensures { IsTrue result ↔ AllZip IsCapped caps.now v.now }
@@ -321,18 +327,18 @@ fn has_caps(caps: &[Option<u64>], v: &[i64]) -> bool
     true
 }
 
-// whether the sum of two entries is within the cap
+// Whether the sum of two entries is within the cap.
 fn is_sum_capped(cap: Option<u64>, x: i64, y: i64) -> bool
     ensures { IsTrue result ↔ IsCapped cap (x +ℤ y) }
 {
-    // the sum always has room in 128 bits
+    // The sum always has room in 128 bits.
     match cap {
         Some(most) => (x as i128 + y as i128).unsigned_abs() <= most as u128,
         None => true,
     }
 }
 
-// whether each entry of the sum of two vectors is within its cap; those places alone have one
+// Whether each entry of the sum of two vectors is within its cap; those places alone have one.
 fn sum_has_caps(places: &[u8], caps: &[Option<u64>], u: &[i64], v: &[i64]) -> bool
     requires places { places.now ≡ capped_from 0 caps.now }
     requires first { length u.now ≡ length caps.now }

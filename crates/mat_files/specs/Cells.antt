@@ -35,7 +35,9 @@ Relations = Table Rel
 abbrev pub relation_value : List ℕ → Option Rel
 relation_value [] = None
 relation_value (b ∷ []) =
-    if b == 60 then Some Most else (if b == 62 then Some Least else (if b == 61 then Some Equal else None))
+    if b == 60 then Some Most
+    else (if b == 62 then Some Least
+    else (if b == 61 then Some Equal else None))
 relation_value (b ∷ c ∷ bs) = None
 
 -- a word's relation, where it is one

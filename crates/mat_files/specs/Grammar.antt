@@ -7,7 +7,8 @@ use Rattle.mat_files.specs.Tables.{Table}
 use Rattle.mat_files.specs.Cells.{Matrix, matrix_of, Relations, relation_value, CapTable, cap_value}
 
 -- The words are the count of rows, the count of columns and the cells row by row, and nothing else.
-pub record IsTableText {C : Type 0} (value : List ℕ → Option C) (text : List ℕ) (t : Table C) : Type 0 where
+pub record IsTableText {C : Type 0} (value : List ℕ → Option C) (text : List ℕ)
+    (t : Table C) : Type 0 where
   pub rows_word : Word
   pub cols_word : Word
   pub cell_words : List Word
@@ -18,7 +19,8 @@ pub record IsTableText {C : Type 0} (value : List ℕ → Option C) (text : List
   pub count : length t.cells ≡ t.rows * t.cols
 
 -- the counts are within the limits, there is a column, and each cell may stand in a table
-pub record IsTableWithin {C : Type 0} (IsAllowed : C → Type 0) (max_rows max_cols : ℕ) (t : Table C) : Type 0 where
+pub record IsTableWithin {C : Type 0} (IsAllowed : C → Type 0) (max_rows max_cols : ℕ)
+    (t : Table C) : Type 0 where
   pub rows : t.rows ≤ max_rows
   pub cols : t.cols ≤ max_cols
   pub wide : 1 ≤ t.cols
@@ -34,7 +36,9 @@ IsMatrixWithin max_rows max_cols m = IsTableWithin InRange max_rows max_cols m
 
 -- within any limits that the matrix keeps, the text is read as this matrix
 abbrev pub ReadsAs : List ℕ → Matrix → Type 0
-ReadsAs text m = (max_rows max_cols : ℕ) → m.rows ≤ max_rows → m.cols ≤ max_cols → matrix_of max_rows max_cols text ≡ Ok m
+ReadsAs text m =
+    (max_rows max_cols : ℕ) → m.rows ≤ max_rows → m.cols ≤ max_cols
+    → matrix_of max_rows max_cols text ≡ Ok m
 
 -- the text of a matrix of relations
 abbrev pub IsRelTextOf : List ℕ → Relations → Type 0

@@ -28,7 +28,8 @@ pub record AreCapCells (rows cols : ℕ) (cells : List (Option ℕ)) : Type 0 wh
 abbrev pub table_code : {C : Type 0} → Coded C → Coded (Table C)
 table_code {C} cell_code =
     code_by (ℕ × (ℕ × List C)) (coded× coded_ℕ (coded× coded_ℕ (coded_list cell_code)))
-    (λ t. (t.rows, (t.cols, t.cells))) (λ p. record { rows = p.0; cols = p.1.0; cells = p.1.1 }) (λ _. refl)
+    (λ t. (t.rows, (t.cols, t.cells))) (λ p. record { rows = p.0; cols = p.1.0; cells = p.1.1 })
+    (λ _. refl)
 
 abbrev pub matrix_code : Coded Matrix
 matrix_code = table_code coded_ℤ

@@ -13,7 +13,8 @@ pub record Table (C : Type 0) : Type 0 where
 
 -- the first fault ends the reading
 infixl 10 ◌>>=◌
-abbrev pub ◌>>=◌ : {A B : Type 0} → Result A TextFault → (A → Result B TextFault) → Result B TextFault
+abbrev pub ◌>>=◌ : {A B : Type 0} → Result A TextFault → (A → Result B TextFault)
+    → Result B TextFault
 (Ok x) >>= f = f x
 (Err e) >>= f = Err e
 
@@ -26,7 +27,8 @@ abbrev pub count_at : Word → Result ℕ TextFault
 count_at w = count_in_range w (count_value w.bytes)
 
 -- the next n cells, which are all that is left of a text of this length; cell_at reads one
-abbrev pub cells_at : {C : Type 0} → (Word → Result C TextFault) → ℕ → ℕ → List Word → Result (List C) TextFault
+abbrev pub cells_at : {C : Type 0} → (Word → Result C TextFault) → ℕ → ℕ → List Word
+    → Result (List C) TextFault
 cells_at cell_at zero len [] = Ok []
 cells_at cell_at zero len (w ∷ ws) = Err (Extra w.at)
 cells_at cell_at (suc n) len [] = Err (Early len)
@@ -61,7 +63,8 @@ counts_at max_rows max_cols len ws = do
   Ok (rows, (cols, second.1))
 
 -- the first fault of a text, or the table that stands there
-abbrev pub table_of : {C : Type 0} → (Word → Result C TextFault) → ℕ → ℕ → List ℕ → Result (Table C) TextFault
+abbrev pub table_of : {C : Type 0} → (Word → Result C TextFault) → ℕ → ℕ → List ℕ
+    → Result (Table C) TextFault
 table_of cell_at max_rows max_cols text = do
   counts ← counts_at max_rows max_cols (length text) (words_of text)
   cells ← cells_at cell_at (counts.0 * counts.1.0) (length text) counts.1.1

@@ -73,7 +73,8 @@ pub fn read_cap(
     requires cols { max_cols ≤ 64 }
 
     // What is read is spelled so.
-    ensures found { IfOk result (λ grid. IsCapTextOf bytes.now grid × IsCapWithin max_rows max_cols grid) }
+    ensures found { IfOk result
+        (λ grid. IsCapTextOf bytes.now grid × IsCapWithin max_rows max_cols grid) }
 
     // What is spelled so is read, unless memory runs out.
     ensures only { (m : CapTable) → IsCapTextOf bytes.now m → IsCapWithin max_rows max_cols m
@@ -81,7 +82,8 @@ pub fn read_cap(
 
     // Else the first fault is answered.
     ensures exact { Gives (λ grid. grid) result (cap_table_of max_rows max_cols bytes.now) }
-    ensures limits { IfOk result (λ grid. (grid.rows ≤ max_rows) × (grid.cols ≤ max_cols) × (1 ≤ grid.cols)) }
+    ensures limits { IfOk result
+        (λ grid. (grid.rows ≤ max_rows) × (grid.cols ≤ max_cols) × (1 ≤ grid.cols)) }
 {
     read_caps(alloc, bytes, max_rows, max_cols)
 }

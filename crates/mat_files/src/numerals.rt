@@ -1,4 +1,5 @@
-// Numbers in digits.
+//! Numbers in digits.
+
 ghost use Rattle.std.specs.Prelude.{◌≡◌, ◌^◌, if◌then◌else◌, min, pos, neg_ℤ, MatchOption, ℕ};
 ghost use Rattle.std.specs.Option.{option_map};
 ghost use Rattle.mat_files.specs.Words.{digits_value, number_value, count_value};
@@ -14,7 +15,8 @@ const CAP: u64 = 1 << 63;
 
 // The value of one or more digits, or CAP where it is greater.
 fn capped_value(digits: &[u8]) -> Option<u64>
-    ensures { MatchOption result (digits_value digits.now ≡ None) (λ m. (n : ℕ) × (digits_value digits.now ≡ Some n) × (m ≡ min n (2 ^ 63))) }
+    ensures { MatchOption result (digits_value digits.now ≡ None)
+        (λ m. (n : ℕ) × (digits_value digits.now ≡ Some n) × (m ≡ min n (2 ^ 63))) }
 {
     if digits.is_empty() {
         return None;
@@ -31,7 +33,8 @@ fn capped_value(digits: &[u8]) -> Option<u64>
 
 // Whether a minus stands first, and what stands behind the sign.
 fn split_sign(bytes: &[u8]) -> (bool, &[u8])
-    ensures { number_value bytes.now ≡ option_map (λ n. if result.0 then neg_ℤ (pos n) else pos n) (digits_value result.1.now) }
+    ensures { number_value bytes.now
+        ≡ option_map (λ n. if result.0 then neg_ℤ (pos n) else pos n) (digits_value result.1.now) }
 {
     match bytes.split_first() {
         Some((b'-', digits)) => (true, digits),

@@ -1,4 +1,5 @@
-// Printing matrices.
+//! Printing matrices.
+
 ghost use Rattle.std.specs.Prelude.{◌≡◌, ◌<◌, ◌*◌, ◌^◌, ◌++◌, length, take, decimal, IfOk, OnOk, OnErr};
 ghost use Rattle.std.specs.Fmt.{signed_decimal};
 ghost use Rattle.mat_files.specs.Grids.{IsMatrix};

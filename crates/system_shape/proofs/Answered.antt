@@ -1,11 +1,10 @@
 -- The fault that `shape` answers is the first one.
 use Rattle.std.proofs.Common.{◌≡◌, Option, Some, None, Err, subst}
-use Rattle.std.specs.Prelude.{Result, Ok}
 use Rattle.lift_core.specs.Systems.{ToolSystem}
 use Rattle.system_shape.specs.Answers.{unless, Shapes}
 use Rattle.system_shape.specs.declared.faults.ShapeFault.{ShapeFault}
 use Rattle.system_shape.specs.declared.faults.ShapeEnd.{ShapeEnd}
-use Rattle.system_shape.specs.declared.faults.ShapeEnd.TheVariants.{Bad, Memory}
+use Rattle.system_shape.specs.declared.faults.ShapeEnd.TheVariants.{Bad}
 
 fault_of : (o : Option ShapeFault) (S : ToolSystem) (fault : ShapeFault) → unless o S ≡ Err fault → o ≡ Some fault
 fault_of None S fault e = cc

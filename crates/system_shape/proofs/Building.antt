@@ -105,7 +105,7 @@ x0_known false = All-nil IsSign
 no_x0 : (s : ℕ) → replicate {A = Option ℕ} s None ++ [] ≡ replicate (s + 0) None
 no_x0 s = append-nil (replicate s None) ∙ ap (λ k. replicate k None) (omega arith)
 
--- only the homogenising column has a cap among those behind the user's
+-- only x0 has a cap among those behind the user's
 behind_same : (tool : Tool) (s : ℕ) → replicate s None ++ x0_caps (has_x0 tool) ≡ caps_behind tool (s + length (x0_signs (has_x0 tool)))
 behind_same Graver s = no_x0 s
 behind_same Hilbert s = no_x0 s

@@ -9,7 +9,7 @@ use Rattle.system_shape.specs.Answers.{shaped}
 use Rattle.system_shape.specs.Shape.{shape_fault, user_system}
 use Rattle.system_shape.specs.Problem.{full_vector}
 
--- x - y ≤ 2, -3 x + y ≤ 1 and x + y ≤ 1 for x, y ≥ 0: a slack for each row, then the column of the right sides
+-- x - y ≤ 2, -3 x + y ≤ 1 and x + y ≥ 1 for x, y ≥ 0: a slack for each row, then the column of x0
 polygon : Input
 polygon = record {
   mat = record { rows = 3; cols = 2; cells = pos 1 ∷ negsuc 0 ∷ negsuc 2 ∷ pos 1 ∷ pos 1 ∷ pos 1 ∷ [] };

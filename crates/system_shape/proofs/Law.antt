@@ -55,7 +55,7 @@ rows_count x0 [] parts h = refl
 rows_count x0 (r ∷ rows) [] h = absurd (omega arith)
 rows_count x0 (r ∷ rows) (p ∷ parts) h = ap suc (rows_count x0 rows parts (omega arith))
 
--- ---- the homogenising column
+-- ---- x0
 neg-mul : (b c : ℤ) → (neg_ℤ b *ℤ c) +ℤ pos 0 ≡ neg_ℤ (b *ℤ c)
 neg-mul b c = same_in ((neg_ℤ b *ℤ c) +ℤ pos 0) (neg_ℤ (b *ℤ c)) (omega (arith, ints, ap (λ n. n * up c) (neg_is b).0, ap (λ n. n * down c) (neg_is b).0, ap (λ n. n * up c) (neg_is b).1, ap (λ n. n * down c) (neg_is b).1))
 
@@ -85,7 +85,7 @@ module _ (x0 : Bool) (c : ℤ) (is_x0 : IsX0 x0 c) (x s : List ℤ) where
   rows_in (r ∷ rows) [] l m h = absurd h
   rows_in (r ∷ rows) (p ∷ parts) l m h = (full_dot r p l.0 m.0 ∙ h.0, rows_in rows parts l.1 m.1 h.1)
 
--- ---- signs and caps of the differences and of the homogenising column
+-- ---- signs and caps of the slacks and of x0
 ones_in : (n : ℕ) (s : List ℤ) → length s ≡ n → NotNegative s → AllZip HasSign (replicate n (pos 1)) s
 ones_in zero [] l h = tt
 ones_in (suc n) (y ∷ s) l h = (record { at_least = λ e. h.0; at_most = λ e. absurd (omega (arith, same_out (pos 1) (negsuc 0) e)) }, ones_in n s (omega arith) h.1)

@@ -71,7 +71,7 @@ pub length-joined : (w : ℕ) (rows : List (List ℤ)) → AllByRecursion (λ r.
 length-joined w [] h = omega arith
 length-joined w (r ∷ rows) h = omega (arith, length-append r (joined rows), h.0, length-joined w rows h.1)
 
--- each row has the coefficients, the slack columns and the homogenising column
+-- each row has the coefficients, the slack columns and the column of x0
 one_long : (x0 : Bool) (r : UserRow) (p : List ℤ) (n s : ℕ) → length r.coefficients ≡ n → length p ≡ s → length (r.coefficients ++ (p ++ x0_part x0 r)) ≡ n + (s + length (x0_signs x0))
 one_long true r p n s h k = omega (arith, length-append r.coefficients (p ++ (neg_ℤ r.right ∷ [])), length-append p (neg_ℤ r.right ∷ []))
 one_long false r p n s h k = omega (arith, length-append r.coefficients (p ++ []), length-append p [])

@@ -15,7 +15,7 @@ use Rattle.system_shape.specs.Slacks.{slack_parts, linear_system}
 use Rattle.system_shape.specs.Laws.{IsWellFormed, HasKind, x0_in, StandsFor}
 use Rattle.system_shape.proofs.Law.{full_solves, is_full, parts_count, rows_count}
 
--- the entry of a full vector in the homogenising column
+-- the entry of a full vector in the column of x0
 last-joined : (x s : List ℤ) (c : ℤ) → last (x ++ (s ++ (c ∷ []))) ≡ c
 last-joined x s c = ap last (sym (append_assoc x s (c ∷ []))) ∙ last-push (x ++ s) c
 

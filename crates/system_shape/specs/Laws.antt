@@ -33,38 +33,50 @@ pub record StandsFor (U : UserSystem) (c : ℤ) (x v : List ℤ) : Type 0 where
 
 -- the full vector of a solution solves the linear system
 abbrev pub FullSolves : Type 0
-FullSolves = (U : UserSystem) (c : ℤ) (x : List ℤ) → IsWellFormed U → IsX0 U.x0 c → SolvesUser U c x → Solves (linear_system U) (length U.rows) (full_vector U c x)
+FullSolves =
+    (U : UserSystem) (c : ℤ) (x : List ℤ) → IsWellFormed U → IsX0 U.x0 c → SolvesUser U c x
+    → Solves (linear_system U) (length U.rows) (full_vector U c x)
 
 -- a vector that solves the linear system is the full vector of a solution: x is its first entries, and c its entry in the column of x0
 abbrev pub IsFull : Type 0
 IsFull =
     (U : UserSystem) (v : List ℤ) → IsWellFormed U → Solves (linear_system U) (length U.rows) v
-    → IsX0 U.x0 (x0_in U.x0 v) × SolvesUser U (x0_in U.x0 v) (take (length U.signs) v) × (v ≡ full_vector U (x0_in U.x0 v) (take (length U.signs) v))
+    → IsX0 U.x0 (x0_in U.x0 v) × SolvesUser U (x0_in U.x0 v) (take (length U.signs) v)
+    × (v ≡ full_vector U (x0_in U.x0 v) (take (length U.signs) v))
 
 -- and of no other
 abbrev pub OneSolution : Type 0
-OneSolution = (U : UserSystem) (c d : ℤ) (x y : List ℤ) → IsUserSolution U c x → IsUserSolution U d y → full_vector U c x ≡ full_vector U d y → (c ≡ d) × (x ≡ y)
+OneSolution =
+    (U : UserSystem) (c d : ℤ) (x y : List ℤ) → IsUserSolution U c x → IsUserSolution U d y
+    → full_vector U c x ≡ full_vector U d y → (c ≡ d) × (x ≡ y)
 
 -- x, with c, solves the user's system exactly where a vector stands for it; then one vector does, whose slacks are the differences
 abbrev pub OneVector : Type 0
-OneVector = (U : UserSystem) (c : ℤ) (x v : List ℤ) → IsWellFormed U → StandsFor U c x v ↔ (IsUserSolution U c x × (v ≡ full_vector U c x))
+OneVector =
+    (U : UserSystem) (c : ℤ) (x v : List ℤ) → IsWellFormed U → StandsFor U c x v
+    ↔ (IsUserSolution U c x × (v ≡ full_vector U c x))
 
 -- vectors that solve the linear system, with the same first entries and the same entry in the column of x0, are the same
 abbrev pub FirstEntriesDecide : Type 0
 FirstEntriesDecide =
-    (U : UserSystem) (v w : List ℤ) → IsWellFormed U → Solves (linear_system U) (length U.rows) v → Solves (linear_system U) (length U.rows) w
+    (U : UserSystem) (v w : List ℤ) → IsWellFormed U → Solves (linear_system U) (length U.rows) v
+    → Solves (linear_system U) (length U.rows) w
     → take (length U.signs) v ≡ take (length U.signs) w → x0_in U.x0 v ≡ x0_in U.x0 w → v ≡ w
 
 -- what is written of the linear system is what the user's own system asks for
 abbrev pub WrittenForUser : Type 0
-WrittenForUser = (U : UserSystem) (n : ℕ) (kind : Kind) (x : List ℤ) → IsWellFormed U → n ≡ length U.signs → HasKind U.x0 kind → IsWrittenOf (linear_system U) n kind x ↔ IsWrittenForUser U kind x
+WrittenForUser =
+    (U : UserSystem) (n : ℕ) (kind : Kind) (x : List ℤ) → IsWellFormed U → n ≡ length U.signs
+    → HasKind U.x0 kind → IsWrittenOf (linear_system U) n kind x ↔ IsWrittenForUser U kind x
 
 abbrev pub WantedForUser : Type 0
 WantedForUser =
-    (U : UserSystem) (n : ℕ) (kind : Kind) (rows : List (List ℤ)) → IsWellFormed U → n ≡ length U.signs → HasKind U.x0 kind
+    (U : UserSystem) (n : ℕ) (kind : Kind) (rows : List (List ℤ)) → IsWellFormed U
+    → n ≡ length U.signs → HasKind U.x0 kind
     → IsWanted (linear_system U) n kind rows ↔ IsWantedForUser U kind rows
 
 abbrev pub GraverForUser : Type 0
 GraverForUser =
-    (U : UserSystem) (n : ℕ) (rows : List (List ℤ)) → IsWellFormed U → n ≡ length U.signs → HasKind U.x0 Every
+    (U : UserSystem) (n : ℕ) (rows : List (List ℤ)) → IsWellFormed U → n ≡ length U.signs
+    → HasKind U.x0 Every
     → IsWantedGraver (linear_system U) n rows ↔ IsWantedGraverForUser U rows

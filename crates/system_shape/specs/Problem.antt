@@ -102,5 +102,6 @@ IsWantedForUser U kind rows = IsListOf lex_cmp (IsWrittenForUser U kind) rows
 abbrev pub IsWantedGraverForUser : UserSystem → List (List ℤ) → Type 0
 IsWantedGraverForUser U rows =
     IsListOf lex_cmp
-    (λ x. IsWrittenForUser U Every x × (IsWrittenForUser U Every (negated x) → IsTrue (leads_negative x) → ⊥))
+    (λ x. IsWrittenForUser U Every x
+    × (IsWrittenForUser U Every (negated x) → IsTrue (leads_negative x) → ⊥))
     rows

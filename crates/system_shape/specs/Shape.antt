@@ -1,5 +1,5 @@
 -- Which system the files of a user give for a tool, and their first fault.
-use Rattle.std.specs.Prelude.{◌≡◌, ℕ, ◌==◌, ◌&&◌, ◌||◌, not, if◌then◌else◌, List, [], ◌∷◌, ℤ, pos, negsuc, replicate, Option, Some, None, option_map, Bool, true, false}
+use Rattle.std.specs.Prelude.{ℕ, ◌==◌, ◌&&◌, ◌||◌, not, if◌then◌else◌, List, [], ◌∷◌, ℤ, pos, negsuc, replicate, Option, Some, None, option_map, Bool, true, false}
 use Rattle.std.specs.Option.{option_or}
 use Rattle.std.specs.Ordering.{int_eq}
 use Rattle.std.specs.List.{find, enumerate_from}
@@ -50,7 +50,8 @@ user_rows [] relations rights = []
 user_rows (a ∷ rows) [] rights = []
 user_rows (a ∷ rows) (k ∷ relations) [] = []
 user_rows (a ∷ rows) (k ∷ relations) (b ∷ rights) =
-    record { coefficients = a; relation = relation_of k; right = b } ∷ user_rows rows relations rights
+    record { coefficients = a; relation = relation_of k; right = b }
+    ∷ user_rows rows relations rights
 
 -- zsolve alone has x0
 abbrev pub has_x0 : Tool → Bool
@@ -94,7 +95,9 @@ line_fault rows cols n fault = if (rows == 1) && (cols == n) then None else Some
 
 abbrev pub sign_file_fault : ℕ → Matrix → Option ShapeFault
 sign_file_fault n file =
-    option_or (line_fault file.rows file.cols n (SignShape file.rows file.cols)) (column_fault 1 file.cells)
+    option_or
+    (line_fault file.rows file.cols n (SignShape file.rows file.cols))
+    (column_fault 1 file.cells)
 
 abbrev pub sign_fault : Tool → ℕ → Option Matrix → Option ShapeFault
 sign_fault tool n (Some file) = sign_file_fault n file

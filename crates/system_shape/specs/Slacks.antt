@@ -32,7 +32,8 @@ x0_part false r = []
 abbrev pub rows_with_slacks : Bool → List UserRow → List (List ℤ) → List (List ℤ)
 rows_with_slacks x0 [] parts = []
 rows_with_slacks x0 (r ∷ rows) [] = []
-rows_with_slacks x0 (r ∷ rows) (p ∷ parts) = (r.coefficients ++ (p ++ x0_part x0 r)) ∷ rows_with_slacks x0 rows parts
+rows_with_slacks x0 (r ∷ rows) (p ∷ parts) =
+    (r.coefficients ++ (p ++ x0_part x0 r)) ∷ rows_with_slacks x0 rows parts
 
 abbrev pub x0_signs : Bool → List ℤ
 x0_signs true = pos 1 ∷ []

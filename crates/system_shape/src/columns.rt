@@ -9,14 +9,14 @@ use lift_core::Tool;
 use mat_files::{CapGrid, Grid};
 use std::alloc::{AllocError, Global};
 
-/// Whether the tool has a homogenising column.
+/// Whether the tool has x0, the homogenising column.
 pub(crate) fn has_x0(tool: Tool) -> bool
     ensures { result ≡ has_x0 tool }
 {
     matches!(tool, Tool::Zsolve)
 }
 
-// the sign that the entry is
+// The sign that the entry is.
 fn sign_of(entry: i64) -> i8
     requires { IsSign entry }
     ensures { result ≡ entry }
@@ -28,7 +28,7 @@ fn sign_of(entry: i64) -> i8
     }
 }
 
-// the signs that stand in the file
+// The signs that stand in the file.
 fn file_signs(alloc: Global, entries: &[i64]) -> Result<Vec<i8>, AllocError>
     requires { All IsSign entries.now }
     ensures { IfOk result (λ v. v.items ≡ entries.now) }
@@ -40,7 +40,7 @@ fn file_signs(alloc: Global, entries: &[i64]) -> Result<Vec<i8>, AllocError>
     Ok(signs)
 }
 
-// the signs of the user's n columns
+// The signs of the user's n columns.
 fn user_signs(alloc: Global, tool: Tool, n: u32, sign: &Option<Grid>) -> Result<Vec<i8>, AllocError>
     requires { All IsSign (given_signs tool n sign.now) }
     ensures { IfOk result (λ v. v.items ≡ given_signs tool n sign.now) }
@@ -55,7 +55,7 @@ fn user_signs(alloc: Global, tool: Tool, n: u32, sign: &Option<Grid>) -> Result<
     }
 }
 
-/// The signs of the user's n columns, of so many slack columns, and of the homogenising column.
+/// The signs of the user's n columns, of so many slack columns, and of x0.
 pub(crate) fn column_signs(
     alloc: Global,
     tool: Tool,
@@ -64,7 +64,9 @@ pub(crate) fn column_signs(
     slacks: usize,
 ) -> Result<Vec<i8>, AllocError>
     requires { All IsSign (given_signs tool n sign.now) }
-    ensures { IfOk result (λ v. v.items ≡ given_signs tool n sign.now ++ (replicate slacks (pos 1) ++ x0_signs (has_x0 tool))) }
+    ensures { IfOk result
+        (λ v. v.items ≡ given_signs tool n sign.now
+        ++ (replicate slacks (pos 1) ++ x0_signs (has_x0 tool))) }
 {
     let mut signs = user_signs(alloc, tool, n, sign)?;
     for _slack in 0..slacks {
@@ -76,7 +78,7 @@ pub(crate) fn column_signs(
     Ok(signs)
 }
 
-// the caps of the user's n columns
+// The caps of the user's n columns.
 fn user_caps(alloc: Global, n: u32, cap: &Option<CapGrid>) -> Result<Vec<Option<u64>>, AllocError>
     ensures { IfOk result (λ v. v.items ≡ given_caps n cap.now) }
 {
@@ -86,7 +88,7 @@ fn user_caps(alloc: Global, n: u32, cap: &Option<CapGrid>) -> Result<Vec<Option<
     }
 }
 
-/// The caps of the user's n columns, of so many slack columns, which have none, and of the homogenising column.
+/// The caps of the user's n columns, of so many slack columns, which have none, and of x0.
 pub(crate) fn column_caps(
     alloc: Global,
     tool: Tool,
@@ -94,7 +96,8 @@ pub(crate) fn column_caps(
     cap: &Option<CapGrid>,
     slacks: usize,
 ) -> Result<Vec<Option<u64>>, AllocError>
-    ensures { IfOk result (λ v. v.items ≡ given_caps n cap.now ++ (replicate slacks None ++ x0_caps (has_x0 tool))) }
+    ensures { IfOk result
+        (λ v. v.items ≡ given_caps n cap.now ++ (replicate slacks None ++ x0_caps (has_x0 tool))) }
 {
     let mut caps = user_caps(alloc, n, cap)?;
     for _slack in 0..slacks {

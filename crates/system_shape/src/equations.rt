@@ -35,7 +35,7 @@ pub(crate) fn right_sides(alloc: Global, m: u32, rhs: &Option<Grid>) -> Result<V
     }
 }
 
-// the number of slack columns with that of a row, where there are so many without it
+// The number of slack columns with that of a row, where there are so many without it.
 fn with_slack(relation: Rel, slacks: usize) -> usize
     requires { slacks < 64 }
     ensures { result ≡ slack_count_of (relation_of relation) slacks }
@@ -58,7 +58,7 @@ pub(crate) fn slack_columns(relations: &[Rel]) -> usize
     slacks
 }
 
-// appends so many zeros
+// Appends so many zeros.
 fn push_zeros(cells: &mut Vec<i64>, count: usize) -> Result<(), AllocError>
     ensures { IfOk result (λ _. cells.new.items ≡ cells.old.items ++ replicate count (pos 0)) }
 {
@@ -68,7 +68,7 @@ fn push_zeros(cells: &mut Vec<i64>, count: usize) -> Result<(), AllocError>
     Ok(())
 }
 
-// a row's place among the slack columns: how many of other rows stand before and behind its own, if it has one
+// A row's place among the slack columns: how many of other rows stand before and behind its own, if it has one.
 #[derive(Clone, Copy)]
 struct Slacks {
     before: usize,
@@ -76,7 +76,7 @@ struct Slacks {
     behind: usize,
 }
 
-// the place of a row, counted from 0, where so many slack columns stand before its own
+// The place of a row, counted from 0, where so many slack columns stand before its own.
 fn place_of(relations: &[Rel], row: usize, before: usize) -> Slacks
     requires inside { row < length relations.now }
     requires few { length relations.now ≤ 64 }
@@ -91,9 +91,11 @@ fn place_of(relations: &[Rel], row: usize, before: usize) -> Slacks
     }
 }
 
-// appends a row's entries in the slack columns
+// Appends a row's entries in the slack columns.
 fn push_slacks(cells: &mut Vec<i64>, slacks: Slacks) -> Result<(), AllocError>
-    ensures { IfOk result (λ _. cells.new.items ≡ cells.old.items ++ slack_part slacks.before (relation_of slacks.relation) slacks.behind) }
+    ensures { IfOk result
+        (λ _. cells.new.items ≡ cells.old.items
+        ++ slack_part slacks.before (relation_of slacks.relation) slacks.behind) }
 {
     push_zeros(cells, slacks.before)?;
     match slacks.relation {
@@ -104,7 +106,7 @@ fn push_slacks(cells: &mut Vec<i64>, slacks: Slacks) -> Result<(), AllocError>
     push_zeros(cells, slacks.behind)
 }
 
-// appends a row's entry in the homogenising column, where there is one
+// Appends a row's entry in the column of x0, where there is one.
 fn push_x0(cells: &mut Vec<i64>, x0: bool, right: i64) -> Result<(), AllocError>
     requires { InRange right }
     ensures { IfOk result (λ _. cells.new.items ≡ cells.old.items ++ x0_cells x0 right) }
@@ -115,7 +117,7 @@ fn push_x0(cells: &mut Vec<i64>, x0: bool, right: i64) -> Result<(), AllocError>
     Ok(())
 }
 
-// appends a row's entries
+// Appends a row's entries.
 fn push_row(
     cells: &mut Vec<i64>,
     coefficients: &[i64],
@@ -124,17 +126,21 @@ fn push_row(
     right: i64,
 ) -> Result<(), AllocError>
     requires { InRange right }
-    ensures { IfOk result (λ _. cells.new.items ≡ cells.old.items ++ row_cells x0 coefficients.now slacks.before (relation_of slacks.relation) slacks.behind right) }
+    ensures { IfOk result
+        (λ _. cells.new.items ≡ cells.old.items
+        ++ row_cells x0 coefficients.now slacks.before
+        (relation_of slacks.relation) slacks.behind right) }
 {
     cells.extend_from_slice(coefficients)?;
     push_slacks(cells, slacks)?;
     push_x0(cells, x0, right)
 }
 
-// the coefficients of a row, counted from 0
+// The coefficients of a row, counted from 0.
 fn coefficients(mat: &Grid, row: usize) -> &[i64]
     requires { row < mat.now.rows }
-    ensures { result.now ≡ slice_index_or (cut_rows mat.now.rows mat.now.cols mat.now.cells) row [] }
+    ensures { result.now
+        ≡ slice_index_or (cut_rows mat.now.rows mat.now.cols mat.now.cells) row [] }
 {
     let width = mat.cols as usize;
     let start = row * width;
@@ -153,7 +159,10 @@ pub(crate) fn equations(
     requires relations { length relations.now ≡ mat.now.rows }
     requires rights { length rights.now ≡ mat.now.rows }
     requires range { All InRange rights.now }
-    ensures { IfOk result (λ v. v.items ≡ cells_from x0 0 (user_rows (cut_rows mat.now.rows mat.now.cols mat.now.cells) relations.now rights.now)) }
+    ensures { IfOk result
+        (λ v. v.items
+        ≡ cells_from x0 0
+        (user_rows (cut_rows mat.now.rows mat.now.cols mat.now.cells) relations.now rights.now)) }
 {
     let mut entries = Vec::new(alloc);
     let mut before = 0;

@@ -10,14 +10,14 @@ use crate::{Input, ShapeFault};
 use lift_core::Tool;
 use mat_files::{CapGrid, Grid, RelGrid};
 
-// whether the entry is a sign
+// Whether the entry is a sign.
 fn is_sign(entry: i64) -> bool
     ensures { result ≡ is_sign entry }
 {
     matches!(entry, -1 | 1 | 2)
 }
 
-// the fault of a column whose entry is no sign
+// The fault of a column whose entry is no sign.
 fn fault_of_sign(column: u32, entry: i64) -> ShapeFault
     ensures { result ≡ fault_of_sign column entry }
 {
@@ -31,7 +31,7 @@ fn fault_of_sign(column: u32, entry: i64) -> ShapeFault
     }
 }
 
-// the fault of the first column that has one
+// The fault of the first column that has one.
 fn column_fault(signs: &[i64]) -> Option<ShapeFault>
     requires { length signs.now ≤ 64 }
     ensures fault { result ≡ column_fault 1 signs.now }
@@ -45,7 +45,7 @@ fn column_fault(signs: &[i64]) -> Option<ShapeFault>
     None
 }
 
-// the fault, unless the counts are those of one row of n entries
+// The fault, unless the counts are those of one row of n entries.
 fn line_fault(rows: u32, cols: u32, n: u32, fault: ShapeFault) -> Option<ShapeFault>
     ensures { result ≡ line_fault rows cols n fault }
 {
@@ -56,7 +56,7 @@ fn line_fault(rows: u32, cols: u32, n: u32, fault: ShapeFault) -> Option<ShapeFa
     }
 }
 
-// the fault of a file of signs for n columns
+// The fault of a file of signs for n columns.
 fn sign_file_fault(n: u32, file: &Grid) -> Option<ShapeFault>
     requires { n ≤ 64 }
     ensures fault { result ≡ sign_file_fault n file.now }
@@ -72,7 +72,7 @@ fn sign_file_fault(n: u32, file: &Grid) -> Option<ShapeFault>
     }
 }
 
-// the fault of the signs of n columns
+// The fault of the signs of n columns.
 fn sign_fault(tool: Tool, n: u32, sign: &Option<Grid>) -> Option<ShapeFault>
     requires { n ≤ 64 }
     ensures fault { result ≡ sign_fault tool n sign.now }
@@ -87,9 +87,10 @@ fn sign_fault(tool: Tool, n: u32, sign: &Option<Grid>) -> Option<ShapeFault>
     }
 }
 
-// the fault of a file of relations for m rows
+// The fault of a file of relations for m rows.
 fn relation_file_fault(m: u32, file: &RelGrid) -> Option<ShapeFault>
-    ensures fault { result ≡ line_fault file.now.rows file.now.cols m (RelShape file.now.rows file.now.cols) }
+    ensures fault { result
+        ≡ line_fault file.now.rows file.now.cols m (RelShape file.now.rows file.now.cols) }
     ensures accepted { IfNone result (length file.now.cells ≡ m) }
 {
     let shape = ShapeFault::RelShape {
@@ -99,7 +100,7 @@ fn relation_file_fault(m: u32, file: &RelGrid) -> Option<ShapeFault>
     line_fault(file.rows, file.cols, m, shape)
 }
 
-// the fault of the relations of m rows
+// The fault of the relations of m rows.
 fn relation_fault(m: u32, rel: &Option<RelGrid>) -> Option<ShapeFault>
     ensures fault { result ≡ relation_fault m rel.now }
     ensures accepted { IfNone result (length (given_relations m rel.now) ≡ m) }
@@ -110,9 +111,10 @@ fn relation_fault(m: u32, rel: &Option<RelGrid>) -> Option<ShapeFault>
     }
 }
 
-// the fault of a file of right sides for m rows
+// The fault of a file of right sides for m rows.
 fn right_file_fault(m: u32, file: &Grid) -> Option<ShapeFault>
-    ensures fault { result ≡ line_fault file.now.rows file.now.cols m (RhsShape file.now.rows file.now.cols) }
+    ensures fault { result
+        ≡ line_fault file.now.rows file.now.cols m (RhsShape file.now.rows file.now.cols) }
     ensures accepted { IfNone result (AreRights m file.now.cells) }
 {
     let shape = ShapeFault::RhsShape {
@@ -122,7 +124,7 @@ fn right_file_fault(m: u32, file: &Grid) -> Option<ShapeFault>
     line_fault(file.rows, file.cols, m, shape)
 }
 
-// the fault of the right sides of m rows
+// The fault of the right sides of m rows.
 fn right_fault(tool: Tool, m: u32, rhs: &Option<Grid>) -> Option<ShapeFault>
     ensures fault { result ≡ right_fault tool m rhs.now }
     ensures accepted { IfNone result (AreRights m (given_rights m rhs.now)) }
@@ -136,9 +138,10 @@ fn right_fault(tool: Tool, m: u32, rhs: &Option<Grid>) -> Option<ShapeFault>
     }
 }
 
-// the fault of a file of caps for n columns
+// The fault of a file of caps for n columns.
 fn cap_file_fault(n: u32, file: &CapGrid) -> Option<ShapeFault>
-    ensures fault { result ≡ line_fault file.now.rows file.now.cols n (CapShape file.now.rows file.now.cols) }
+    ensures fault { result
+        ≡ line_fault file.now.rows file.now.cols n (CapShape file.now.rows file.now.cols) }
     ensures accepted { IfNone result (AreUserCaps n file.now.cells) }
 {
     let shape = ShapeFault::CapShape {
@@ -148,7 +151,7 @@ fn cap_file_fault(n: u32, file: &CapGrid) -> Option<ShapeFault>
     line_fault(file.rows, file.cols, n, shape)
 }
 
-// the fault of the caps of n columns
+// The fault of the caps of n columns.
 fn cap_fault(n: u32, cap: &Option<CapGrid>) -> Option<ShapeFault>
     ensures fault { result ≡ cap_fault n cap.now }
     ensures accepted { IfNone result (AreUserCaps n (given_caps n cap.now)) }

@@ -1,7 +1,7 @@
 //! The system of equations that the user's matrices stand for.
 //!
 //! A user's system has inequalities and right sides. The system that is solved has equations with right side 0, over
-//! the user's columns, a slack column for each inequality, and for `zsolve` a homogenising column.
+//! the user's columns, a slack column for each inequality, and for `zsolve` the homogenising column x0.
 #![tactic(auto)]
 
 mod columns;

@@ -15,7 +15,7 @@ use crate::{Input, ShapeEnd};
 use lift_core::{System, Tool};
 use std::alloc::{AllocError, Global};
 
-// the system of these signs, caps and entries
+// The system of these signs, caps and entries.
 fn assemble(
     tool: Tool,
     input: &Input,
@@ -26,7 +26,8 @@ fn assemble(
     requires fitting { AreFitting tool input.now }
     requires signs { signs.items ≡ (linear_system (user_system tool input.now)).signs }
     requires caps { caps.items ≡ (linear_system (user_system tool input.now)).caps }
-    requires entries { entries.items ≡ cells_from (has_x0 tool) 0 (user_system tool input.now).rows }
+    requires entries { entries.items
+        ≡ cells_from (has_x0 tool) 0 (user_system tool input.now).rows }
     ensures { result ≡ tool_system tool input.now }
 {
     let mat = &input.mat;
@@ -34,7 +35,7 @@ fn assemble(
     System::build(tool, mat.cols, width, entries, signs, caps)
 }
 
-// the system of files without a fault
+// The system of files without a fault.
 fn accepted_system(alloc: Global, tool: Tool, input: &Input) -> Result<System, AllocError>
     requires { AreFitting tool input.now }
     ensures { IfOk result (λ system. system ≡ tool_system tool input.now) }
@@ -52,9 +53,9 @@ fn accepted_system(alloc: Global, tool: Tool, input: &Input) -> Result<System, A
 /// The system that the matrices stand for, for a tool.
 ///
 /// Its columns are those of the matrix, then one slack for each row that is an inequality, in row order, then for
-/// `zsolve` alone the homogenising column. With s the row's slack and c the homogenising column, a row `a x <= b`
-/// becomes `a x + s - b c = 0`, a row `a x >= b` becomes `a x - s - b c = 0`, and a row `a x = b` becomes
-/// `a x - b c = 0`; the other tools have no right sides. Slacks and c are at least 0, and c is at most 1.
+/// `zsolve` alone the homogenising column x0. With s the row's slack, a row `a x <= b`
+/// becomes `a x + s - b x0 = 0`, a row `a x >= b` becomes `a x - s - b x0 = 0`, and a row `a x = b` becomes
+/// `a x - b x0 = 0`; the other tools have no right sides. Slacks and x0 are at least 0, and x0 is at most 1.
 /// A column of the matrix has the cap that the file of caps gives it, and a slack has none.
 ///
 /// # Errors
@@ -68,7 +69,8 @@ pub fn shape(alloc: Global, tool: Tool, input: &Input) -> Result<System, ShapeEn
 
     // Where there is a system, the laws between it and the user's own hold.
     ensures well_formed { IfOk result (λ _. IsWellFormed (user_system tool input.now)) }
-    ensures columns { IfOk result (λ _. input.now.mat.cols ≡ length (user_system tool input.now).signs) }
+    ensures columns { IfOk result
+        (λ _. input.now.mat.cols ≡ length (user_system tool input.now).signs) }
 {
     match shape_fault(tool, input) {
         Some(fault) => Err(ShapeEnd::Bad(fault)),

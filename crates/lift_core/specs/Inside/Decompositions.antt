@@ -13,9 +13,11 @@ pub record IsDecomposition (P : List ℤ → Type 0) (v : List ℤ) (terms : Lis
   pub sum : total (length v) terms ≡ v
 
 -- the terms are minimal stage vectors, no two have opposite signs before the last entry, and their sum is z
-pub record IsConformalSum (S : LinearSystem) (k : ℕ) (z : List ℤ) (terms : List (List ℤ)) : Type 0 where
+pub record IsConformalSum (S : LinearSystem) (k : ℕ) (z : List ℤ)
+    (terms : List (List ℤ)) : Type 0 where
   pub minimal : (u : List ℤ) → Contains terms u → IsStageMinimal S k u
-  pub conformal : (u v : List ℤ) → Contains terms u → Contains terms v → AreConformal (front u) (front v)
+  pub conformal : (u v : List ℤ) → Contains terms u → Contains terms v
+      → AreConformal (front u) (front v)
   pub sum : total (length z) terms ≡ z
 
 -- the total of the absolute values of the last entries

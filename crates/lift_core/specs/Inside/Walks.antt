@@ -20,7 +20,8 @@ still_waiting e waiting = filter (λ z. not (stage_norm z == e)) waiting
 -- the listed rows with the waiting ones of norm e and the irreducible sums of the pairs of norm e
 abbrev pub IsGrown : LinearSystem → List (List ℤ) → List (List ℤ) → ℕ → List (List ℤ) → Type 0
 IsGrown S listed waiting e grown =
-    IsListOf norm_cmp (λ z. Contains listed z ⊎ (IsWaitingAt waiting e z ⊎ IsNewSum S listed e z)) grown
+    IsListOf norm_cmp
+    (λ z. Contains listed z ⊎ (IsWaitingAt waiting e z ⊎ IsNewSum S listed e z)) grown
 
 -- the pairs used up to norm e, from those used up to d
 abbrev pub used_up_to : ℕ → List (List ℤ) → ℕ → ℕ → ℕ
@@ -45,7 +46,8 @@ pub data WalkEnds (S : LinearSystem) (limits : Limits)
       → IsGrown S listed waiting e grown
       → limits.rows < length grown
       → WalkEnds S limits k d used listed waiting (rows_spent k e (length grown))
-  walk_closing : {k d used e : ℕ} {listed waiting : List (List ℤ)} {end : End} (grown : List (List ℤ))
+  walk_closing : {k d used e : ℕ} {listed waiting : List (List ℤ)} {end : End}
+      (grown : List (List ℤ))
       → IsNextNorm listed waiting d e
       → e ≤ largest
       → used_up_to used listed d e ≤ limits.pairs

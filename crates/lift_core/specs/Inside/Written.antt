@@ -35,5 +35,6 @@ IsWanted S n kind rows = IsListOf lex_cmp (IsWrittenOf S n kind) rows
 abbrev pub IsWantedGraver : LinearSystem → ℕ → List (List ℤ) → Type 0
 IsWantedGraver S n rows =
     IsListOf lex_cmp
-    (λ x. IsWrittenOf S n Every x × (IsWrittenOf S n Every (negated x) → IsTrue (leads_negative x) → ⊥))
+    (λ x. IsWrittenOf S n Every x
+    × (IsWrittenOf S n Every (negated x) → IsTrue (leads_negative x) → ⊥))
     rows

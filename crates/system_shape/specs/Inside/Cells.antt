@@ -27,9 +27,12 @@ x0_cells false b = []
 
 -- the entries of a row with this relation and right side
 abbrev pub row_cells : Bool → List ℤ → ℕ → Relation → ℕ → ℤ → List ℤ
-row_cells x0 coefficients before k behind b = coefficients ++ (slack_part before k behind ++ x0_cells x0 b)
+row_cells x0 coefficients before k behind b =
+    coefficients ++ (slack_part before k behind ++ x0_cells x0 b)
 
 -- the entries of the equations of these rows, where so many slack columns stand before those of the rows
 abbrev pub cells_from : Bool → ℕ → List UserRow → List ℤ
 cells_from x0 before [] = []
-cells_from x0 before (r ∷ rows) = row_cells x0 r.coefficients before r.relation (slack_count rows) r.right ++ cells_from x0 (slack_count_of r.relation before) rows
+cells_from x0 before (r ∷ rows) =
+    row_cells x0 r.coefficients before r.relation (slack_count rows) r.right
+    ++ cells_from x0 (slack_count_of r.relation before) rows

@@ -1,3 +1,4 @@
+-- An ascending list with exactly the members of a set is unique.
 use Rattle.std.specs.Prelude.{IsTrue}
 use Rattle.int_vector.specs.Vectors.{lex_cmp, negated, leads_negative}
 use Rattle.lift_core.specs.Columns.{Every}

@@ -1,9 +1,9 @@
-use Rattle.std.proofs.Common.{◌≡◌, ◌<◌, length, get_or, ap, sym, ◌∙◌, arith, subst, rules, pos, w64, SFits, to_z-of_z}
+-- A column without a cap allows each sum, so the columns that have one decide.
+use Rattle.std.proofs.Common.{get_or, arith, rules, pos, w64, SFits, to_z-of_z}
 use Rattle.std.specs.Prelude.{IsTrue, ◌↔◌}
 use Rattle.std.specs.List.{AllZip}
 use Rattle.int_vector.specs.Operations.{add}
 use Rattle.lift_core.specs.Columns.{IsCapped}
-use Rattle.lift_core.specs.Inside.Capped.{capped_from}
 use Rattle.lift_core.proofs.Caps.{IsSumCapped, place_inside, sum_capped_decide, left_decide, left_refutes}
 use Rattle.lift_core.proofs.system.sum_has_caps.Goals as goal
 

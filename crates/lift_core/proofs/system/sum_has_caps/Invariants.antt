@@ -1,3 +1,4 @@
+-- The places of the caps are gone through one after another.
 use Rattle.std.proofs.Common.{drop}
 use Rattle.std.specs.Prelude.{◌↔◌}
 use Rattle.std.specs.List.{AllZip, AllByRecursion}

@@ -1,9 +1,10 @@
+-- The reader and the grammar agree, since they agree on each cell.
 use Rattle.std.proofs.Common.{arith}
 use Rattle.mat_files.specs.Words.{number_value}
 use Rattle.mat_files.specs.Cells.{number_at}
 use Rattle.int_vector.specs.Range.{InRange}
-use Rattle.mat_files.proofs.GrammarLemmas.{found_from, only_from}
-use Rattle.mat_files.proofs.CellLemmas.{reads_numbers}
+use Rattle.mat_files.proofs.SpelledTables.{found_from, only_from}
+use Rattle.mat_files.proofs.CellReaders.{reads_numbers}
 use Rattle.mat_files.proofs.grid.read_grid.Goals as goal
 
 pub returns-clause-found : goal.returns-clause-found

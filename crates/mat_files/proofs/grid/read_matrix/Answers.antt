@@ -1,8 +1,9 @@
+-- What is read has as many cells as its counts say, each in range.
 use Rattle.mat_files.specs.Words.{number_value}
 use Rattle.mat_files.specs.Cells.{number_at}
 use Rattle.int_vector.specs.Range.{InRange}
-use Rattle.mat_files.proofs.GrammarLemmas.{text-table_of}
-use Rattle.mat_files.proofs.CellLemmas.{reads_numbers}
+use Rattle.mat_files.proofs.SpelledTables.{text-table_of}
+use Rattle.mat_files.proofs.CellReaders.{reads_numbers}
 use Rattle.mat_files.proofs.grid.read_matrix.Goals as goal
 
 pub invariant_of-result : goal.invariant_of-result

@@ -1,3 +1,4 @@
+-- Each clause is a lemma of `Law` or `Solutions`.
 use Rattle.system_shape.proofs.Law.{full_solves}
 use Rattle.system_shape.proofs.Solutions.{solution_of, one_solution, one_vector, first_decide}
 use Rattle.system_shape.proofs.laws.shape_law.Goals as goal

@@ -1,3 +1,4 @@
+-- What is written of the linear system is what the user asks for, member by member.
 use Rattle.std.specs.Prelude.{IsTrue}
 use Rattle.lift_core.specs.Columns.{Every}
 use Rattle.lift_core.specs.Inside.Written.{IsWrittenOf}

@@ -1,3 +1,4 @@
+-- The places are found one after another.
 use Rattle.std.proofs.Common.{◌≡◌, ◌++◌, ◌≤◌, length, take, drop}
 use Rattle.lift_core.specs.Inside.Capped.{capped_from}
 use Rattle.lift_core.proofs.capped.CappedColumns.of.Given as goal

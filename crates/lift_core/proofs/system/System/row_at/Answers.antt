@@ -1,3 +1,4 @@
+-- A slice of the entries, cut at the place of a row, is that row.
 use Rattle.std.proofs.Common.{rules, ◌≡◌, ◌∙◌, ◌+◌, ◌*◌, ◌-◌, ◌<◌, ℤ, List, [], length, get_or, take, drop, ap, subst, sym, arith}
 use Rattle.std.specs.List.{All}
 use Rattle.int_vector.specs.Range.{InRange}

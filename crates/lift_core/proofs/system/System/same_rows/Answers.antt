@@ -1,3 +1,4 @@
+-- Entries that are cut into the same rows are the same, and the other way round.
 use Rattle.std.proofs.Common.{rules, ◌≡◌, ◌∙◌, ◌*◌, ◌<◌, length, ap, ap₂, sym, arith}
 use Rattle.std.specs.Prelude.{IsTrue, ◌↔◌}
 use Rattle.lift_core.specs.Systems.{ToolSystem}

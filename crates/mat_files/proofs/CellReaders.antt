@@ -8,7 +8,7 @@ use Rattle.mat_files.specs.Cells.{number_at, number_in_range, relation_value, re
 use Rattle.std.specs.Prelude.{⊤}
 use Rattle.mat_files.specs.declared.relations.Rel.{Rel}
 use Rattle.mat_files.specs.declared.faults.TextFault.TheVariants.{OutOfRange}
-use Rattle.mat_files.proofs.GrammarLemmas.{ReadsCells}
+use Rattle.mat_files.proofs.SpelledTables.{ReadsCells}
 
 in_range-back : (w : Word) (o : Option ℤ) (z : ℤ) → number_in_range w o ≡ Ok z → (o ≡ Some z) × InRange z
 in_range-back w None z e = cc

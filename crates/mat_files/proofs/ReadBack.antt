@@ -11,10 +11,10 @@ use Rattle.int_vector.specs.Range.{InRange}
 use Rattle.mat_files.specs.Texts.{joined_cells, line_of}
 use Rattle.mat_files.specs.Printed.{lines_of, text_of}
 use Rattle.mat_files.specs.Grammar.{IsTextOf, ReadsAs}
-use Rattle.mat_files.proofs.DigitLemmas.{IsWordText, word-decimal, word-signed_decimal, count_value-decimal, number_value-decimal}
-use Rattle.mat_files.proofs.TextLemmas.{suc_times}
-use Rattle.mat_files.proofs.GrammarLemmas.{table_of-text}
-use Rattle.mat_files.proofs.CellLemmas.{reads_numbers}
+use Rattle.mat_files.proofs.PrintedNumbers.{IsWordText, word-decimal, word-signed_decimal, count_value-decimal, number_value-decimal}
+use Rattle.mat_files.proofs.RowByRow.{suc_times}
+use Rattle.mat_files.proofs.SpelledTables.{table_of-text}
+use Rattle.mat_files.proofs.CellReaders.{reads_numbers}
 
 -- the words of the text are these, wherever it begins
 abbrev Spells : List (List ℕ) → List ℕ → Type 0
