@@ -13,7 +13,7 @@ appended-written : (files : Files) (name front piece : List ℕ) → appended na
 appended-written files name front piece =
     ap (λ bytes. insert (insert files name front) name (bytes ++ piece)) (bytes_of-insert files name front) ∙ insert-insert files name front (front ++ piece)
 
-appended-held : (old : Option Files) (name front piece : List ℕ) → option_map (appended name piece) (option_map (written name front) old) ≡ option_map (written name (front ++ piece)) old
+pub appended-held : (old : Option Files) (name front piece : List ℕ) → option_map (appended name piece) (option_map (written name front) old) ≡ option_map (written name (front ++ piece)) old
 appended-held None name front piece = refl
 appended-held (Some files) name front piece = ap Some (appended-written files name front piece)
 

@@ -5,8 +5,7 @@ use Rattle.std.proofs.lemmas.List.{length-append, length-replicate, get_or-map, 
 use Rattle.std.proofs.Math.Seq.{drop-cons}
 use Rattle.lift_core.specs.declared.Tool.{Tool}
 use Rattle.lift_core.specs.declared.Tool.TheVariants.{Graver, Hilbert, Zsolve}
-use Rattle.lift_core.specs.Systems.{ToolSystem, caps_of}
-use Rattle.lift_core.specs.ToolSystems.{IsToolSystem, width, HasRoomForX0}
+use Rattle.lift_core.specs.Systems.{ToolSystem, IsToolSystem, width, caps_of}
 use Rattle.restart_file.specs.Texts.{spaced, cap_text, row_line}
 
 -- ---- one more text, and a space where it is not the last
@@ -58,7 +57,7 @@ caps_end caps j line new old word l whole is =
     none (c ∷ caps) (suc j) l = none caps j (omega (arith, l))
 
 -- ---- the system's rows behind its first lines
-behind_three : (a b c : List ℕ) (xs : List (List ℕ)) (i : ℕ) → 3 ≤ i → get_or (a ∷ b ∷ c ∷ xs) i [] ≡ get_or xs (i - 3) []
+pub behind_three : (a b c : List ℕ) (xs : List (List ℕ)) (i : ℕ) → 3 ≤ i → get_or (a ∷ b ∷ c ∷ xs) i [] ≡ get_or xs (i - 3) []
 behind_three a b c xs zero h = absurd (omega (arith, h))
 behind_three a b c xs (suc zero) h = absurd (omega (arith, h))
 behind_three a b c xs (suc (suc zero)) h = absurd (omega (arith, h))

@@ -83,7 +83,7 @@ abbrev pub waiting_lines : Progress → List (List ℕ)
 waiting_lines p = counts_line (codes "waiting ") (length p.waiting ∷ []) ∷ map line_of p.waiting
 
 abbrev pub listed_lines : Version → Progress → List (List ℕ)
-listed_lines v p = map line_of p.listed ++ class_lines v p.listed ++ waiting_lines p
+listed_lines v p = map line_of p.listed ++ (class_lines v p.listed ++ waiting_lines p)
 
 abbrev pub place_lines : Version → Progress → List (List ℕ)
 place_lines v p =

@@ -4,6 +4,9 @@
 //! has the SHA-256 of all bytes before it, so that a file that was cut or altered is not taken for another stage.
 #![tactic(auto)]
 
+mod classes;
 mod lines;
+mod writing;
 
 pub use lines::Version;
+pub use writing::write_restart;

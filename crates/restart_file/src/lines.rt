@@ -1,9 +1,11 @@
 //! The lines of a restart text.
 
 ghost use Rattle.std.specs.Prelude.{◌≡◌, ◌++◌, ◌∷◌, ◌+◌, ◌<◌, ◌≤◌, [], length, slice_index_or, map, codes, decimal, OnOk};
+ghost use Rattle.hex.specs.Hex.{encode_lower};
 ghost use Rattle.mat_files.specs.Texts.{line_of};
 ghost use Rattle.restart_file.specs.Texts.{spaced, counts_line, version_line, tool_line, shape_line, signs_line, cap_text, caps_line, row_line, system_lines};
 
+use hex::encode_to_slice;
 use itoa::Buffer;
 use lift_core::{System, Tool};
 use mat_files::print_line;
@@ -153,7 +155,15 @@ pub(crate) fn push_system_line(
 {
     match i {
         0 => line.extend_from_slice(tool_text(system.tool())),
-        1 => push_counts(line, b"shape ", &[u64::from(system.n()), u64::from(system.width()), u64::from(system.count())]),
+        1 => push_counts(
+            line,
+            b"shape ",
+            &[
+                u64::from(system.n()),
+                u64::from(system.width()),
+                u64::from(system.count()),
+            ],
+        ),
         2 => push_signs(line, system),
         _ => match version {
             Version::First => push_row(line, system, i - 3),
@@ -161,4 +171,16 @@ pub(crate) fn push_system_line(
             Version::Second => push_row(line, system, i - 4),
         },
     }
+}
+
+// Adds the last line, of this digest.
+pub(crate) fn push_digest(line: &mut Vec<u8>, digest: &[u8; 32]) -> Result<(), AllocError>
+    ensures { OnOk result (line.new.items ≡ line.old.items ++ (codes "digest " ++ encode_lower digest.now ++ 10 ∷ [])) }
+{
+    let mut digits = [0u8; 64];
+    encode_to_slice(digest.as_slice(), &mut digits).unwrap();
+    line.extend_from_slice(b"digest ")?;
+    line.extend_from_slice(&digits)?;
+    line.push(b'\n')?;
+    Ok(())
 }

@@ -1,4 +1,4 @@
-use Rattle.std.proofs.Common.{ℕ, ap, arith, sym, ◌∙◌, ◌≡◌, ◌++◌, ◌<◌, length}
+use Rattle.std.proofs.Common.{ℕ, ap, arith, ◌∙◌, ◌≡◌, length}
 use Rattle.std.specs.Global.{Vec}
 use Rattle.restart_file.proofs.Spacing.{cap_and_space, cap_alone, caps_end, caps_length}
 use Rattle.restart_file.proofs.lines.push_caps.Goals as goal

@@ -1,4 +1,4 @@
-use Rattle.std.proofs.Common.{◌≡◌, take, length}
+use Rattle.std.proofs.Common.{◌≡◌, take}
 use Rattle.restart_file.proofs.lines.push_signs.Given as goal
 
 abbrev pub invariant-loop-j : goal.invariant-loop-j

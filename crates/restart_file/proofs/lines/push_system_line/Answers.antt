@@ -1,6 +1,5 @@
-use Rattle.std.proofs.Common.{arith, rules, ap, sym, ◌∙◌, ◌≤◌, ◌≡◌}
-use Rattle.std.specs.Prelude.{map}
-use Rattle.restart_file.specs.Texts.{row_line, tool_line, shape_line, signs_line, caps_line}
+use Rattle.std.proofs.Common.{rules, ◌≤◌}
+use Rattle.restart_file.specs.Texts.{tool_line, shape_line, signs_line, caps_line}
 use Rattle.restart_file.proofs.Spacing.{row_behind_three, row_behind_four}
 use Rattle.restart_file.proofs.lines.push_system_line.Goals as goal
 
