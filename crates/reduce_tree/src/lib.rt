@@ -13,10 +13,13 @@
 //!   an eight or a row with a bit outside z's signature.
 #![tactic(auto)]
 
+mod bounds;
 mod bucket;
+mod index;
 mod items;
 pub mod laws;
 mod signature;
+mod tier;
 mod tree;
 
 pub use tree::Tree;
