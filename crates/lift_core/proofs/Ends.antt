@@ -7,7 +7,7 @@ use Rattle.std.specs.List.{find}
 use Rattle.lift_core.specs.Systems.{LinearSystem, row}
 use Rattle.lift_core.specs.Stages.{IsListed, IsNextNorm, HasNoNextNorm, AreUsed}
 use Rattle.lift_core.specs.Ends.{End, norm_overflow, row_overflow, pairs_spent, rows_spent, finished, Limits, ListsAt, RunEnds, without_rows, from_stage_one, EndsIn, by_norm_overflow, by_pairs_spent, by_rows_spent, by_closing, by_row_overflow, by_next_stage, by_finish, IsSolutionList, leaves_range}
-use Rattle.int_vector.specs.Range.{largest}
+use Rattle.int_vector.specs.Vectors.{largest}
 use Rattle.lift_core.proofs.Unique.{one_listed, one_solution_list, one_used, one_next, next_or_none, not_found, some_same}
 
 module _ (S : LinearSystem) (limits : Limits) where

@@ -2,12 +2,12 @@
 
 ghost use Rattle.std.specs.Prelude.{◌≡◌, ◌↔◌, ◌+◌, ◌+ℤ◌, ◌-◌, ◌*◌, ◌/◌, ◌%◌, ◌<◌, ◌≤◌, [], None, ℤ, pos, length, take, drop, IsTrue, IfOk, slice_index_or, All};
 ghost use Rattle.std.specs.List.{AllZip, AllByRecursion};
-ghost use Rattle.int_vector.specs.Vectors.{norm, dot};
+ghost use Rattle.int_vector.specs.Vectors.{norm, dot, largest};
 ghost use Rattle.int_vector.specs.Operations.{add};
 ghost use Rattle.lift_core.specs.ToolSystems.{width, IsSign, AreCaps, IsToolSystem, HasRoomForX0, built_system};
 ghost use Rattle.lift_core.specs.Systems.{row, ObeysSigns, ObeysCaps};
 ghost use Rattle.lift_core.specs.Columns.{HasSign, IsCapped};
-ghost use Rattle.int_vector.specs.Range.{largest, InRange};
+ghost use Rattle.int_vector.specs.Range.{InRange};
 ghost use Rattle.lift_core.specs.Inside.Capped.{capped_from};
 ghost use Rattle.lift_core.specs.Inside.Written.{x0_of};
 

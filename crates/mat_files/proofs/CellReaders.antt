@@ -2,7 +2,8 @@
 use Rattle.std.proofs.Common.{◌≡◌, ℕ, Bool, true, false, cond, nat_le, Option, Some, None, Ok, Err, refl, sym, ap, subst, ◌∙◌}
 use Rattle.std.proofs.lemmas.Bool.{leb-true, le-leb, cond-true}
 use Rattle.std.proofs.Math.IntN.{ℤ, nat_abs}
-use Rattle.int_vector.specs.Range.{IsCap, largest, InRange}
+use Rattle.int_vector.specs.Range.{IsCap, InRange}
+use Rattle.int_vector.specs.Vectors.{largest}
 use Rattle.mat_files.specs.Words.{Word, number_value}
 use Rattle.mat_files.specs.Cells.{number_at, number_in_range, relation_value, relation_at, found_relation, cap_value, cap_at, cap_in_range}
 use Rattle.std.specs.Prelude.{⊤}

@@ -5,7 +5,7 @@ use Rattle.std.proofs.lemmas.Bool.{leb-true, eqb-false, le-leb, cond-true, cond-
 use Rattle.std.specs.List.{AllByRecursion}
 use Rattle.mat_files.specs.Words.{Word, words_of, count_value}
 use Rattle.mat_files.specs.Tables.{Table, cells_at, count_at, count_in_range, next_count, up_to, not_zero, counts_at, table_of, ◌>>=◌}
-use Rattle.int_vector.specs.Range.{largest}
+use Rattle.int_vector.specs.Vectors.{largest}
 use Rattle.mat_files.specs.Answers.{Gives}
 use Rattle.mat_files.specs.Grammar.{IsTableText, IsTableWithin}
 use Rattle.mat_files.specs.declared.faults.TextEnd.{TextEnd}

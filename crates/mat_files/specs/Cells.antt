@@ -1,7 +1,7 @@
 -- The cells of the three kinds of table: numbers, relations and caps; and the tables of them that texts spell.
 use Rattle.std.specs.Prelude.{ℕ, ◌==◌, nat_le, nat_abs, if◌then◌else◌, List, [], ◌∷◌, ℤ, Option, None, Some, Result, Ok, Err}
 use Rattle.std.specs.Option.{option_map}
-use Rattle.int_vector.specs.Range.{largest}
+use Rattle.int_vector.specs.Vectors.{largest}
 use Rattle.mat_files.specs.Words.{Word, number_value, count_value}
 use Rattle.mat_files.specs.Tables.{Table, table_of}
 use Rattle.mat_files.specs.declared.faults.TextFault.{TextFault}

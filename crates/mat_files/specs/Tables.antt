@@ -1,6 +1,6 @@
 -- Tables of cells of any kind as texts: the first fault of a text in reading order, or the table that stands there.
 use Rattle.std.specs.Prelude.{ℕ, ◌*◌, suc, zero, nat_le, ◌==◌, if◌then◌else◌, List, [], ◌∷◌, length, Option, None, Some, Result, Ok, Err}
-use Rattle.int_vector.specs.Range.{largest}
+use Rattle.int_vector.specs.Vectors.{largest}
 use Rattle.mat_files.specs.Words.{Word, words_of, count_value}
 use Rattle.mat_files.specs.declared.faults.TextFault.{TextFault}
 use Rattle.mat_files.specs.declared.faults.TextFault.TheVariants.{NotNumber, OutOfRange, Early, Extra, TooManyRows, TooManyCols, NoCols}

@@ -1,5 +1,6 @@
 pub use Rattle.row_pool.specs.Rows
 pub use Rattle.lift_core.specs.Systems
+pub use Rattle.lift_core.specs.ToolSystems
 pub use Rattle.lift_core.specs.Times
 pub use Rattle.lift_core.specs.PureMachine
 pub use Rattle.stage_store.specs.Stage

@@ -1,7 +1,7 @@
 //! The irreducible sums of some blocks of one norm.
 
 ghost use Rattle.std.specs.Prelude.{◌≡◌, ◌+◌, ◌<◌, ◌≤◌, ◌++◌, ◌∷◌, [], true, false, length, OnOk, OnErr};
-ghost use Rattle.lift_core.specs.Systems.{width};
+ghost use Rattle.lift_core.specs.ToolSystems.{width};
 ghost use Rattle.norm_board.specs.Books.{IsAlike, IsSame};
 ghost use Rattle.norm_board.specs.Blocks.{Sums, IsBlockOf};
 

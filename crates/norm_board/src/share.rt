@@ -1,7 +1,7 @@
 //! What one worker has worked out and not put yet, and the book while a pass holds it.
 
 ghost use Rattle.std.specs.Prelude.{◌≡◌, ◌+◌, ◌<◌, ◌≤◌, ◌++◌, ◌∷◌, ℕ, [], true, length, OnOk, OnErr};
-ghost use Rattle.lift_core.specs.Systems.{width};
+ghost use Rattle.lift_core.specs.ToolSystems.{width};
 ghost use Rattle.lift_core.specs.Times.{times};
 ghost use Rattle.norm_board.specs.Books.{IsAlike, IsSame};
 ghost use Rattle.norm_board.specs.Blocks.{Sums, IsBlockOf};
@@ -44,7 +44,6 @@ pub struct Turn<'s> {
 }
 
 impl<'s> Model for Turn<'s> {
-    ghost use Rattle.norm_board.specs.Books.{BookValue};
 
     ghost Value = { BookValue };
 

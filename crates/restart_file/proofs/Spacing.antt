@@ -5,7 +5,8 @@ use Rattle.std.proofs.lemmas.List.{length-append, length-replicate, get_or-map, 
 use Rattle.std.proofs.Math.Seq.{drop-cons}
 use Rattle.lift_core.specs.declared.Tool.{Tool}
 use Rattle.lift_core.specs.declared.Tool.TheVariants.{Graver, Hilbert, Zsolve}
-use Rattle.lift_core.specs.Systems.{ToolSystem, IsToolSystem, width, caps_of}
+use Rattle.lift_core.specs.Systems.{ToolSystem, caps_of}
+use Rattle.lift_core.specs.ToolSystems.{IsToolSystem, width}
 use Rattle.restart_file.specs.Texts.{spaced, cap_text, row_line}
 
 -- ---- one more text, and a space where it is not the last

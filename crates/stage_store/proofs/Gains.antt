@@ -10,9 +10,8 @@ use Rattle.int_vector.specs.Operations.{add}
 use Rattle.lift_core.specs.Systems.{LinearSystem}
 use Rattle.lift_core.specs.Lists.{IsListOf}
 use Rattle.lift_core.specs.Stages.{stage_norm, norm_cmp, has_positive_last, has_negative_last, IsPair, IsNextNorm}
-use Rattle.int_vector.specs.Vectors.{lex_cmp}
+use Rattle.int_vector.specs.Vectors.{lex_cmp, largest}
 use Rattle.lift_core.specs.Inside.PairSums.{HasSum, IsIrreducible, IsNewSum}
-use Rattle.int_vector.specs.Range.{largest}
 use Rattle.lift_core.proofs.Lists.{contains_cases, contains_head, contains_tail, contains_nothing, each_contained, each_from_contained}
 use Rattle.lift_core.proofs.Orders.{in_map, from_map}
 use Rattle.stage_store.specs.Classes.{ClassValue, AreClasses, row_at, ids_of, pairs_of}

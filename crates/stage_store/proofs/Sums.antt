@@ -8,8 +8,7 @@ use Rattle.lift_core.specs.Inside.PairSums.{HasSum}
 use Rattle.lift_core.specs.Stages.{IsPair, front, last, stage_norm}
 use Rattle.lift_core.proofs.Stages.{front-take, front-add, last-get_or}
 use Rattle.std.proofs.lemmas.Int.{ints}
-use Rattle.int_vector.specs.Vectors.{norm}
-use Rattle.int_vector.specs.Range.{largest}
+use Rattle.int_vector.specs.Vectors.{norm, largest}
 
 abbrev pub SumFits : ℤ → ℤ → Type 0
 SumFits x y = nat_abs (x +ℤ y) ≤ largest

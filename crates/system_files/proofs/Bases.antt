@@ -19,7 +19,7 @@ use Rattle.system_files.proofs.Kernels.{minimal_negated}
 
 -- the user's system of n free columns and these equations
 abbrev pub free_system : ℕ → ℕ → List (List ℤ) → UserSystem
-free_system n m rows = record { signs = replicate n (pos 2); caps = replicate n None; rows = user_rows rows (replicate m Equal) (replicate m (pos 0)); home = false }
+free_system n m rows = record { signs = replicate n (pos 2); caps = replicate n None; rows = user_rows rows (replicate m Equal) (replicate m (pos 0)); x0 = false }
 
 free_signs : (n : ℕ) (v : List ℤ) → length v ≡ n → AllZip HasSign (replicate n (pos 2)) v
 free_signs zero [] h = tt
@@ -64,7 +64,7 @@ module _ (n m : ℕ) (rows : List (List ℤ)) (count : length rows ≡ m) where
 
   user_from_kernel : (v : List ℤ) → IsKernelVector n rows v → IsUserSolution (free_system n m rows) (pos 0) v
   user_from_kernel v h = record {
-    home = refl;
+    x0 = refl;
     solves = record { signs = free_signs n v h.columns; caps = free_caps n v h.columns; rows = rows_hold m rows v count h.kernel };
   }
 
@@ -72,7 +72,7 @@ module _ (n m : ℕ) (rows : List (List ℤ)) (count : length rows ≡ m) where
   kernel_from_user c v h = record {
     columns = sym (length_all_zip HasSign (replicate n (pos 2)) v h.solves.signs) ∙ length-replicated n (pos 2);
     kernel = rows_give m rows v count
-        (subst (λ (d : ℤ). AllByRecursion (λ r. Stands r.relation (dot r.coefficients v) (r.right *ℤ d)) (user_rows rows (replicate m Equal) (replicate m (pos 0)))) h.home h.solves.rows);
+        (subst (λ (d : ℤ). AllByRecursion (λ r. Stands r.relation (dot r.coefficients v) (r.right *ℤ d)) (user_rows rows (replicate m Equal) (replicate m (pos 0)))) h.x0 h.solves.rows);
   }
 
   minimal_from_user : (v : List ℤ) → IsWrittenForUser (free_system n m rows) Every v → IsMinimal (IsKernelVector n rows) v
@@ -93,7 +93,7 @@ module _ (n m : ℕ) (rows : List (List ℤ)) (count : length rows ≡ m) where
       solution = user_from_kernel v h.member;
       nonzero = λ z. h.nonzero (subst IsZero (full_is (pos 0) v) z);
       least = λ d w s nonzero b. (
-        s.home,
+        s.x0,
         h.least w (kernel_from_user d w s) (λ z. nonzero (subst IsZero (sym (full_is d w)) z))
             (subst (λ (x : List ℤ). x ⊑ v) (full_is d w) (subst (λ (x : List ℤ). full_vector (free_system n m rows) d w ⊑ x) (full_is (pos 0) v) b)),
       );

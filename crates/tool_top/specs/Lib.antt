@@ -16,7 +16,6 @@ pub use Rattle.lift_core.specs.Inside.Written
 pub use Rattle.system_shape.specs.Problem
 pub use Rattle.system_shape.specs.Slacks
 pub use Rattle.system_shape.specs.Shape
-pub use Rattle.system_shape.specs.Solutions
 pub use Rattle.system_files.specs.Inputs
 pub use Rattle.system_files.specs.Files as SystemFiles
 pub use Rattle.solution_files.specs.Outputs as SolutionOutputs

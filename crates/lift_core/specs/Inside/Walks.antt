@@ -2,7 +2,7 @@
 use Rattle.std.specs.Prelude.{◌≡◌, ℕ, ◌+◌, ◌-◌, ◌≤◌, ◌<◌, ◌⊎◌, ◌==◌, List, [], ℤ, pos, length, map, not, Some, None}
 use Rattle.std.specs.List.{Contains, filter, find}
 use Rattle.std.specs.Ordering.{int_eq}
-use Rattle.int_vector.specs.Range.{largest}
+use Rattle.int_vector.specs.Vectors.{largest}
 use Rattle.lift_core.specs.Lists.{IsListOf}
 use Rattle.lift_core.specs.Systems.{LinearSystem, row}
 use Rattle.lift_core.specs.Stages.{extend, front, last, stage_norm, norm_cmp, IsNextNorm, HasNoNextNorm, IsWaitingAt, pairs_within}

@@ -1,6 +1,6 @@
 -- What the fields of a book, a share, a pass and a board keep.
 use Rattle.std.specs.Prelude.{◌≡◌, ℕ, ◌+◌, ◌<◌, ◌≤◌, ◌^◌, List, [], ◌∷◌, Bool, true, false, Option, Some, None, is_some}
-use Rattle.lift_core.specs.Systems.{width}
+use Rattle.lift_core.specs.ToolSystems.{width}
 use Rattle.lift_core.specs.Times.{times}
 use Rattle.row_pool.specs.Rows.{PoolValue}
 use Rattle.stage_store.specs.Stage.{StageValue}

@@ -1,5 +1,5 @@
 use Rattle.std.proofs.Common.{refl, arith, ◌≡◌, ◌+◌, ◌≤◌, sym, ◌∙◌, ap, subst}
-use Rattle.lift_core.specs.Systems.{width}
+use Rattle.lift_core.specs.ToolSystems.{width}
 use Rattle.lift_core.specs.Times.{once_below}
 use Rattle.stage_store.specs.Stage.{StageValue, IsStage}
 use Rattle.norm_board.specs.Blocks.{blocks_of, pair_count}
