@@ -5,6 +5,10 @@ use Rattle.std.specs.declared.cmp.Ordering.{Ordering}
 use Rattle.std.specs.Ordering.{int_cmp}
 use Rattle.std.specs.Cmp.Lexicographic.{slice_cmp}
 
+-- the greatest absolute value that is in range, 2^63-1
+abbrev pub largest : ℕ
+largest = 9223372036854775807
+
 -- the sum of the absolute values
 abbrev pub norm : List ℤ → ℕ
 norm [] = 0
