@@ -26,8 +26,9 @@ use Rattle.solution_files.specs.Outputs.{grid_of, text_of_rows, kind_of, IsSelec
 use Rattle.tool_top.specs.declared.ends.Part.{Part}
 use Rattle.lift_core.specs.Ends.{RunEnds, finished as run_finished}
 use Rattle.system_files.specs.Inputs.{IsShaped}
+use Rattle.tool_words.specs.declared.jobs.Job.{Job}
 use Rattle.tool_top.specs.Outputs.{OutputFile, file_of, AreOutputsOf, AreOutputs}
-use Rattle.tool_top.specs.Expected.{default_limits, FinishesWith}
+use Rattle.tool_top.specs.Expected.{limits_of, FinishesWith}
 
 norm-append : (u v : List ℤ) → norm (u ++ v) ≡ norm u + norm v
 norm-append [] v = omega arith
@@ -82,13 +83,13 @@ module _ (tool : Tool) (input : Input) (formed : IsWellFormed (user_system tool 
   ] formed as_many
 
 -- what is selected from the finish of the files' system is what the plan asks for
-pub wanted_outputs : (tool : Tool) (project : List ℕ) (input : Input) (S : ToolSystem) → IsShaped tool input S → (T : ToolSystem) (outputs : List OutputFile) → T ≡ S
-    → AreFilesOf T.tool T outputs → AreOutputs (record { project = project; tool = tool; input = input }) outputs
-wanted_outputs tool project input S shaped T outputs same files =
+pub wanted_outputs : (tool : Tool) (job : Job) (input : Input) (S : ToolSystem) → IsShaped tool input S → (T : ToolSystem) (outputs : List OutputFile) → T ≡ S
+    → AreFilesOf T.tool T outputs → AreOutputs (record { job = job; tool = tool; input = input }) outputs
+wanted_outputs tool job input S shaped T outputs same files =
     let e : T ≡ tool_system tool input = same ∙ shaped.is in
     user_files tool input shaped.formed shaped.columns outputs (subst (λ (U : ToolSystem). AreFilesOf U.tool U outputs) e files)
 
-pub finishes_with : (tool : Tool) (project : List ℕ) (input : Input) (S : ToolSystem) → IsShaped tool input S → (rows : List (List ℤ)) (pairs : ℕ)
-    → RunEnds S.equations default_limits (run_finished rows pairs) → FinishesWith (record { project = project; tool = tool; input = input }) pairs
-finishes_with tool project input S shaped rows pairs ends =
-    (rows, subst (λ (U : ToolSystem). RunEnds U.equations default_limits (run_finished rows pairs)) shaped.is ends)
+pub finishes_with : (tool : Tool) (job : Job) (input : Input) (S : ToolSystem) → IsShaped tool input S → (rows : List (List ℤ)) (pairs : ℕ)
+    → RunEnds S.equations (limits_of job) (run_finished rows pairs) → FinishesWith (record { job = job; tool = tool; input = input }) pairs
+finishes_with tool job input S shaped rows pairs ends =
+    (rows, subst (λ (U : ToolSystem). RunEnds U.equations (limits_of job) (run_finished rows pairs)) shaped.is ends)

@@ -13,6 +13,7 @@ pub use Rattle.lift_core.specs.Systems
 pub use Rattle.lift_core.specs.Written
 pub use Rattle.system_shape.specs.Shape
 pub use Rattle.system_shape.specs.Solutions
+pub use Rattle.tool_words.specs.Jobs
 pub use Rattle.system_files.specs.Inputs
 pub use Rattle.system_files.specs.Files as SystemFiles
 pub use Rattle.solution_files.specs.Outputs as SolutionOutputs

@@ -12,7 +12,7 @@ use Rattle.solution_files.specs.Outputs.{written, text_of_rows}
 use Rattle.tool_top.specs.declared.ends.Part.{Part}
 use Rattle.tool_top.specs.declared.ends.Part.TheVariants.{Gra, Hil, Zhom, Zinhom}
 use Rattle.tool_top.specs.Names.{file_name}
-use Rattle.tool_top.specs.Plan.{Plan, user_of}
+use Rattle.tool_top.specs.Plan.{Plan, project_of, user_of}
 
 -- an output file: which, its text, how many rows it has, and the sum of their norms
 pub record OutputFile : Type 0 where
@@ -50,7 +50,7 @@ written_all project (f ∷ fs) files =
 abbrev pub HasWritten : Plan → Files → Option Files → Type 0
 HasWritten p before after =
     (outputs : List OutputFile) × AreOutputs p outputs
-    × (after ≡ Some (written_all p.project outputs before))
+    × (after ≡ Some (written_all (project_of p.job) outputs before))
 
 -- the numbers of the summary: all rows, and the sum of their norms
 abbrev pub rows_in : List OutputFile → ℕ
