@@ -21,7 +21,7 @@ cases_below : (m n : ℕ) → (m ≤ n) ⊎ (n ≤ m)
 cases_below m n = elim (cases_lt m n) [ inl h ↦ inl (omega (arith, h)) | inr h ↦ inr h ]
 
 -- a part of a piece, as at most the whole of it
-part : (k : ℕ) (piece rest : List ℕ) → take k piece ≡ take (min k (length piece)) (piece ++ rest)
+pub part : (k : ℕ) (piece rest : List ℕ) → take k piece ≡ take (min k (length piece)) (piece ++ rest)
 part k piece rest =
     elim (cases_below k (length piece)) [
       | inl h ↦ sym (take-append-le k piece rest h) ∙ ap (λ m. take m (piece ++ rest)) (let e : k ≡ min k (length piece) = omega (arith, h) in e)
@@ -30,7 +30,7 @@ part k piece rest =
           ∙ ap (λ m. take m (piece ++ rest)) (let e : length piece ≡ min k (length piece) = omega (arith, h) in e)
     ]
 
-known_more : (old : Option (List ℕ)) (front piece : List ℕ) → append_known (append_known old front) piece ≡ append_known old (front ++ piece)
+pub known_more : (old : Option (List ℕ)) (front piece : List ℕ) → append_known (append_known old front) piece ≡ append_known old (front ++ piece)
 known_more None front piece = refl
 known_more (Some bytes) front piece = ap Some (append_assoc bytes front piece)
 

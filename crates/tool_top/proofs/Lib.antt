@@ -1,3 +1,4 @@
 pub mod Cuts
 pub mod Conclusions
 pub mod Wanted
+pub mod Sequences

@@ -3,6 +3,7 @@ pub mod Plan
 pub mod Outputs
 pub mod Expected
 pub mod Summary
+pub mod Messages
 pub mod Left
 pub mod Inside
 pub use Rattle.outside.specs.Files

@@ -6,6 +6,7 @@
 #![tactic(auto)]
 
 mod ends;
+mod messages;
 mod names;
 mod outputs;
 mod program;
@@ -13,5 +14,6 @@ mod summary;
 mod top;
 
 pub use ends::{End, Part, Status};
+pub use messages::put_message;
 pub use program::run_program;
 pub use top::run_tool;
