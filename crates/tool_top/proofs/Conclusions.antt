@@ -10,7 +10,8 @@ use Rattle.lift_run.specs.declared.ends.Place.TheVariants.{Row, Norm}
 use Rattle.lift_run.specs.declared.ends.RunEnd.{RunEnd}
 use Rattle.lift_run.specs.declared.ends.RunEnd.TheVariants.{Overflow as RunOverflow, Pairs as RunPairs, Rows as RunRows, Memory as RunMemory}
 use Rattle.lift_run.specs.Runs.{end_of_error}
-use Rattle.system_shape.specs.Shape.{UserSystem, user_system, tool_system}
+use Rattle.system_shape.specs.Problem.{UserSystem}
+use Rattle.system_shape.specs.Shape.{user_system, tool_system}
 use Rattle.system_shape.specs.declared.files.Input.{Input}
 use Rattle.system_files.specs.declared.sources.Source.{Source}
 use Rattle.system_files.specs.declared.sources.Source.TheVariants as source

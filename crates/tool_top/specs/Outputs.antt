@@ -3,11 +3,10 @@ use Rattle.std.specs.Prelude.{◌≡◌, ℕ, ℤ, List, ◌∷◌, [], length, 
 use Rattle.std.specs.List.{sum_by}
 use Rattle.outside.specs.Files.{Files}
 use Rattle.int_vector.specs.Vectors.{norm}
-use Rattle.lift_core.specs.Written.{Every, Homogeneous, Inhomogeneous}
+use Rattle.lift_core.specs.Columns.{Every, Homogeneous, Inhomogeneous}
 use Rattle.lift_core.specs.declared.Tool.{Tool}
 use Rattle.lift_core.specs.declared.Tool.TheVariants.{Graver, Hilbert, Zsolve}
-use Rattle.system_shape.specs.Shape.{UserSystem}
-use Rattle.system_shape.specs.Solutions.{IsWantedForUser, IsWantedGraverForUser}
+use Rattle.system_shape.specs.Problem.{UserSystem, IsWantedForUser, IsWantedGraverForUser}
 use Rattle.solution_files.specs.Outputs.{written, text_of_rows}
 use Rattle.tool_top.specs.declared.ends.Part.{Part}
 use Rattle.tool_top.specs.declared.ends.Part.TheVariants.{Gra, Hil, Zhom, Zinhom}

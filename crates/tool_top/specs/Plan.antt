@@ -3,7 +3,8 @@ use Rattle.std.specs.Prelude.{ℕ, ◌&&◌, not, is_none, Bool, if◌then◌els
 use Rattle.outside.specs.Files.{Files}
 use Rattle.lift_core.specs.Systems.{ToolSystem}
 use Rattle.lift_core.specs.declared.Tool.{Tool}
-use Rattle.system_shape.specs.Shape.{UserSystem, user_system, tool_system}
+use Rattle.system_shape.specs.Problem.{UserSystem}
+use Rattle.system_shape.specs.Shape.{user_system, tool_system}
 use Rattle.system_shape.specs.declared.files.Input.{Input}
 use Rattle.system_files.specs.declared.sources.Source.{Source}
 use Rattle.system_files.specs.declared.sources.Source.TheVariants as source

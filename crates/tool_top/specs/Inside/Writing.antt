@@ -3,11 +3,12 @@ use Rattle.std.specs.Prelude.{◌≡◌, ℕ, ℤ, List, [], ◌∷◌, map, Opt
 use Rattle.std.specs.Io.KnownBytes.{append_known}
 use Rattle.outside.specs.Files.{Files}
 use Rattle.int_vector.specs.Vectors.{norm}
-use Rattle.mat_files.specs.Texts.{text_of}
+use Rattle.mat_files.specs.Printed.{text_of}
 use Rattle.lift_core.specs.Systems.{ToolSystem}
 use Rattle.lift_core.specs.declared.Tool.{Tool}
 use Rattle.lift_core.specs.declared.Tool.TheVariants.{Graver, Hilbert, Zsolve}
-use Rattle.lift_core.specs.Written.{Kind, Every, Homogeneous, Inhomogeneous, IsWanted, IsWantedGraver}
+use Rattle.lift_core.specs.Columns.{Kind, Every, Homogeneous, Inhomogeneous}
+use Rattle.lift_core.specs.Inside.Written.{IsWanted, IsWantedGraver}
 use Rattle.tool_words.specs.declared.jobs.Job.{Job}
 use Rattle.tool_top.specs.declared.ends.Part.{Part}
 use Rattle.tool_top.specs.declared.ends.Part.TheVariants.{Gra, Hil, Zhom, Zinhom, Out}
