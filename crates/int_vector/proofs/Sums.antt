@@ -3,7 +3,7 @@ use Rattle.std.proofs.Common.{◌≡◌, ℕ, zero, suc, ◌+◌, ◌≤◌, ◌
 use Rattle.std.specs.Prelude.{ℤ, pos, ◌+ℤ◌, nat_abs}
 use Rattle.std.specs.List.{AllZip}
 use Rattle.std.proofs.lemmas.List.{take_more, take_more_set, take_all}
-use Rattle.int_vector.specs.Vectors.{add}
+use Rattle.int_vector.specs.Operations.{add}
 
 pub length-add : (u v : List ℤ) → length u ≡ length v → length (add u v) ≡ length u
 length-add [] v e = refl

@@ -3,7 +3,8 @@ use Rattle.std.proofs.Common.{◌≡◌, zero, suc, ◌+◌, ◌≤◌, ◌<◌,
 use Rattle.std.specs.Prelude.{ℤ, ◌+ℤ◌, ◌-ℤ◌, ◌*ℤ◌, nat_abs}
 use Rattle.std.proofs.lemmas.Int.{ints}
 use borrow.Author.Differences.{same_in}
-use Rattle.int_vector.specs.Vectors.{IsWithin, norm, dot, ◌⊑◌, IsZero, add, subtract, AreConformal}
+use Rattle.int_vector.specs.Vectors.{IsWithin, norm, dot, ◌⊑◌, IsZero}
+use Rattle.int_vector.specs.Operations.{add, subtract, AreConformal}
 use Rattle.int_vector.proofs.Numbers.{within_from_parts, nat_abs-parts, zero_parts, parts_of_sum, parts_of_difference, mul-add, mul-subtract, same_sign_within, same_sign_swap}
 
 within_refl : (x : ℤ) → IsWithin x x

@@ -1,9 +1,6 @@
 -- The numbers that entries, right sides and caps may be.
 use Rattle.std.specs.Prelude.{ℕ, ◌≤◌, ℤ, nat_abs, Option, Some, None, ⊤}
-
--- 2^63-1
-abbrev pub largest : ℕ
-largest = 9223372036854775807
+use Rattle.int_vector.specs.Vectors.{largest}
 
 -- from -(2^63-1) to 2^63-1
 abbrev pub InRange : ℤ → Type 0

@@ -1,6 +1,13 @@
 -- Vectors of whole numbers, as lists.
-use Rattle.std.specs.Prelude.{◌≡◌, ℕ, zero, suc, ◌+◌, ◌≤◌, List, [], ◌∷◌, ℤ, pos, negsuc, ◌+ℤ◌, ◌-ℤ◌, ◌*ℤ◌, ◌≤ℤ◌, nat_abs, replicate}
+use Rattle.std.specs.Prelude.{◌≡◌, ℕ, zero, suc, ◌+◌, ◌≤◌, List, [], ◌∷◌, ℤ, pos, negsuc, ◌+ℤ◌, ◌*ℤ◌, ◌≤ℤ◌, nat_abs, neg_ℤ, map, Bool, true, false}
 use Rattle.std.specs.List.{AllZip, AllByRecursion}
+use Rattle.std.specs.declared.cmp.Ordering.{Ordering}
+use Rattle.std.specs.Ordering.{int_cmp}
+use Rattle.std.specs.Cmp.Lexicographic.{slice_cmp}
+
+-- the greatest absolute value that is in range, 2^63-1
+abbrev pub largest : ℕ
+largest = 9223372036854775807
 
 -- the sum of the absolute values
 abbrev pub norm : List ℤ → ℕ
@@ -18,7 +25,7 @@ pub record IsWithin (x y : ℤ) : Type 0 where
   pub same_sign : pos 0 ≤ℤ (x *ℤ y)
   pub no_larger : nat_abs x ≤ nat_abs y
 
--- as long, and within in each component
+-- the conformal order of Graver (1975): as long, and within in each component
 infix 45 ◌⊑◌
 abbrev pub ◌⊑◌ : List ℤ → List ℤ → Type 0
 u ⊑ v = AllZip IsWithin u v
@@ -27,35 +34,17 @@ u ⊑ v = AllZip IsWithin u v
 abbrev pub IsZero : List ℤ → Type 0
 IsZero v = AllByRecursion (λ x. x ≡ pos 0) v
 
--- the sum and the difference of two vectors, component by component
-abbrev pub add : List ℤ → List ℤ → List ℤ
-add [] v = []
-add (x ∷ u) [] = []
-add (x ∷ u) (y ∷ v) = (x +ℤ y) ∷ add u v
+-- the lexicographic order, by the first component that differs
+abbrev pub lex_cmp : List ℤ → List ℤ → Ordering
+lex_cmp = slice_cmp int_cmp
 
-abbrev pub subtract : List ℤ → List ℤ → List ℤ
-subtract [] u = []
-subtract (y ∷ v) [] = []
-subtract (y ∷ v) (x ∷ u) = (y -ℤ x) ∷ subtract v u
+-- the negative of a vector
+abbrev pub negated : List ℤ → List ℤ
+negated v = map neg_ℤ v
 
--- no component has opposite signs
-abbrev pub AreConformal : List ℤ → List ℤ → Type 0
-AreConformal u v = AllZip (λ x y. pos 0 ≤ℤ (x *ℤ y)) u v
-
--- the sum of a list of vectors of n entries
-abbrev pub total : ℕ → List (List ℤ) → List ℤ
-total n [] = replicate n (pos 0)
-total n (v ∷ vs) = add v (total n vs)
-
--- the first entry that is not 0, and 0 where there is none
-abbrev pub leading_entry : List ℤ → ℤ
-leading_entry [] = pos 0
-leading_entry (pos zero ∷ v) = leading_entry v
-leading_entry (pos (suc n) ∷ v) = pos (suc n)
-leading_entry (negsuc n ∷ v) = negsuc n
-
--- 1, 0 or -1, where the number is above, equal to or below 0
-abbrev pub sign : ℤ → ℤ
-sign (pos zero) = pos 0
-sign (pos (suc n)) = pos 1
-sign (negsuc n) = negsuc 0
+-- whether the first entry that is not 0 is negative
+abbrev pub leads_negative : List ℤ → Bool
+leads_negative [] = false
+leads_negative (pos zero ∷ v) = leads_negative v
+leads_negative (pos (suc a) ∷ v) = false
+leads_negative (negsuc a ∷ v) = true

@@ -9,7 +9,8 @@ ghost use Rattle.std.specs.Prelude.{◌≡◌, ◌+◌, ◌-◌, ◌^◌, ◌↔
 ghost use Rattle.std.specs.List.{AllZip};
 ghost use Rattle.std.specs.Ordering.{int_cmp};
 ghost use Rattle.std.specs.Cmp.Lexicographic.{slice_cmp};
-ghost use Rattle.int_vector.specs.Vectors.{IsWithin, ◌⊑◌, norm, dot, add, AreConformal, IsZero, leading_entry, sign};
+ghost use Rattle.int_vector.specs.Vectors.{IsWithin, ◌⊑◌, norm, dot, IsZero};
+ghost use Rattle.int_vector.specs.Operations.{add, AreConformal, leading_entry, sign};
 
 use std::cmp::Ordering;
 
@@ -96,7 +97,7 @@ pub fn conformal(u: &[i64], v: &[i64]) -> bool
 fn are_opposite(x: i64, y: i64) -> bool
     ensures { IsTrue result ↔ ((x *ℤ y) <ℤ pos 0) }
 {
-    // the product always has room in 128 bits, and to ask its sign is a single branch
+    // The product always has room in 128 bits, and to ask its sign is a single branch.
     (x as i128 * y as i128) < 0
 }
 

@@ -1,7 +1,7 @@
 //! Files of small systems.
 
 ghost use Rattle.std.specs.Prelude.{◌≡◌, ◌+◌, ◌≤◌, length, All, IfOk, OnOk};
-ghost use Rattle.lift_core.specs.Systems.{width, IsSign};
+ghost use Rattle.lift_core.specs.ToolSystems.{width, IsSign};
 ghost use Rattle.row_pool.specs.Rows.{InRange};
 
 use lift_core::{System, Tool};

@@ -1,14 +1,14 @@
 -- The caps of a sum of two vectors: the columns that have a cap decide. By recursion on the columns.
-use Rattle.std.proofs.Common.{◌≡◌, ℕ, zero, suc, ◌+◌, ◌<◌, ◌≤◌, List, [], ◌∷◌, ◌++◌, length, get_or, take, drop, arith, subst, refl, sym, ap, ◌∙◌}
+use Rattle.std.proofs.Common.{◌≡◌, ℕ, zero, suc, ◌+◌, ◌<◌, List, [], ◌∷◌, length, get_or, drop, arith, subst, refl, sym, ap}
 use Rattle.std.specs.Prelude.{ℤ, pos, ◌+ℤ◌, Option, Some, None, ◌↔◌, ◌==◌}
 use Rattle.std.specs.Bool.{Decides}
 use Rattle.std.specs.Cmp.{unsigned_Decides}
 use Rattle.std.specs.Option.{option_eq}
 use Rattle.std.specs.List.{AllZip, AllByRecursion}
-use Rattle.int_vector.specs.Vectors.{add}
+use Rattle.int_vector.specs.Operations.{add}
 use Rattle.int_vector.proofs.Sums.{length-add, add-at}
-use Rattle.lift_core.specs.Systems.{IsCapped}
-use Rattle.lift_core.specs.Capped.{capped_from}
+use Rattle.lift_core.specs.Columns.{IsCapped}
+use Rattle.lift_core.specs.Inside.Capped.{capped_from}
 
 -- each of the places is one of a column
 capped_inside : (k : ℕ) (caps : List (Option ℕ)) (i d : ℕ) → i < length (capped_from k caps) → get_or (capped_from k caps) i d < k + length caps

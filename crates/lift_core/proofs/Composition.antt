@@ -5,9 +5,8 @@ use Rattle.std.specs.Prelude.{ℤ, pos}
 use Rattle.std.specs.List.{AllByRecursion}
 use Rattle.std.proofs.lemmas.List.{take_more}
 use Rattle.int_vector.specs.Vectors.{norm, dot, ◌⊑◌, IsWithin}
-use Rattle.lift_core.specs.Systems.{LinearSystem, row, Solves}
-use Rattle.lift_core.specs.Extended.{extend}
-use Rattle.lift_core.specs.Stages.{front, last, IsStageMinimal, IsMinimalSolution}
+use Rattle.lift_core.specs.Systems.{LinearSystem, row, Solves, IsMinimalSolution}
+use Rattle.lift_core.specs.Stages.{extend, front, last, IsStageMinimal}
 use Rattle.int_vector.proofs.Numbers.{within_parts, within_from_parts}
 use Rattle.int_vector.proofs.Vectors.{norm_positive, nonzero_from_norm}
 use Rattle.lift_core.proofs.Extended.{below_push, pushed_below, same_pushed, positive_extended}

@@ -8,12 +8,13 @@ use Rattle.std.proofs.lemmas.Int.{ints}
 use Rattle.std.proofs.lemmas.List.Sums.{sum_by-cons, sum_by-append}
 use Rattle.std.proofs.lemmas.List.Elements.{Contains-append_cases}
 use borrow.Author.Differences.{up, down}
-use Rattle.int_vector.specs.Vectors.{norm, dot, ◌⊑◌, IsWithin, AreConformal, add, total}
+use Rattle.int_vector.specs.Vectors.{norm, dot, ◌⊑◌, IsWithin}
+use Rattle.int_vector.specs.Operations.{AreConformal, add, total}
 use Rattle.int_vector.proofs.Numbers.{mul-add, within_parts, one_part}
 use Rattle.int_vector.proofs.Vectors.{below_trans, length-below, left_below_sum, conformal_within, conformal_swap, norm_positive}
 use Rattle.lift_core.specs.Systems.{LinearSystem, row, ObeysCaps}
 use Rattle.lift_core.specs.Stages.{front, last, stage_norm, IsStageVector, IsStageMinimal}
-use Rattle.lift_core.specs.Sums.{IsDecomposition, IsConformalSum, last_total}
+use Rattle.lift_core.specs.Inside.Decompositions.{IsDecomposition, IsConformalSum, last_total}
 use Rattle.lift_core.proofs.Systems.{solution_length, caps_below}
 use Rattle.lift_core.proofs.Lists.{contains_cases, contains_head, contains_tail, contains_nothing, each_contained}
 use Rattle.lift_core.proofs.Growth.{stage_front, front_below, stage_sum, stage_positive, stage_nonzero}

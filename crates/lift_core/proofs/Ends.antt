@@ -6,7 +6,8 @@ use Rattle.std.specs.Prelude.{ℤ, ⊤}
 use Rattle.std.specs.List.{find}
 use Rattle.lift_core.specs.Systems.{LinearSystem, row}
 use Rattle.lift_core.specs.Stages.{IsListed, IsNextNorm, HasNoNextNorm, AreUsed}
-use Rattle.lift_core.specs.Ends.{End, norm_overflow, row_overflow, pairs_spent, rows_spent, finished, Limits, Lists, RunEnds, without_rows, from_stage_one, EndsIn, by_norm_overflow, by_pairs_spent, by_rows_spent, by_closing, by_row_overflow, by_next_stage, by_finish, IsSolutionList, leaves_range, largest}
+use Rattle.lift_core.specs.Ends.{End, norm_overflow, row_overflow, pairs_spent, rows_spent, finished, Limits, ListsAt, RunEnds, without_rows, from_stage_one, EndsIn, by_norm_overflow, by_pairs_spent, by_rows_spent, by_closing, by_row_overflow, by_next_stage, by_finish, IsSolutionList, leaves_range}
+use Rattle.int_vector.specs.Vectors.{largest}
 use Rattle.lift_core.proofs.Unique.{one_listed, one_solution_list, one_used, one_next, next_or_none, not_found, some_same}
 
 module _ (S : LinearSystem) (limits : Limits) where
@@ -23,7 +24,7 @@ module _ (S : LinearSystem) (limits : Limits) where
     then_next_stage : {k d : ℕ} {end : End} (all : List (List ℤ)) → k < length S.rows → IsSolutionList S k all → find (leaves_range (row S (k + 1))) all ≡ None → EndsIn S limits (k + 1) 0 end → AtNone k d end
     then_finish : {k d used : ℕ} (all : List (List ℤ)) → length S.rows ≤ k → IsSolutionList S k all → AreUsed S k d used → AtNone k d (finished all used)
 
-  at_next : {k d : ℕ} {end : End} → EndsIn S limits k d end → (e : ℕ) (a : Lists S k d) → IsNextNorm a.listed a.waiting d e → AtNext k e end
+  at_next : {k d : ℕ} {end : End} → EndsIn S limits k d end → (e : ℕ) (a : ListsAt S k d) → IsNextNorm a.listed a.waiting d e → AtNext k e end
   at_next {k} {d} (by_norm_overflow {e = f} b next large) e a p = subst (λ n. AtNext k n (norm_overflow k f)) (one_next S k d f e b a next p) (then_norm_overflow large)
   at_next {k} {d} (by_pairs_spent {e = f} {used} b next small u more) e a p = subst (λ n. AtNext k n (pairs_spent k f used)) (one_next S k d f e b a next p) (then_pairs_spent small u more)
   at_next {k} {d} (by_rows_spent {e = f} b after next small u fits l more) e a p = subst (λ n. AtNext k n (rows_spent k f (length after))) (one_next S k d f e b a next p) (then_rows_spent after small u fits l more)
@@ -32,7 +33,7 @@ module _ (S : LinearSystem) (limits : Limits) where
   at_next {k} {d} (by_next_stage b all none more l found rest) e a p = absurd (next_or_none S k d e a b p none)
   at_next {k} {d} (by_finish b all none last l u) e a p = absurd (next_or_none S k d e a b p none)
 
-  at_none : {k d : ℕ} {end : End} → EndsIn S limits k d end → (a : Lists S k d) → HasNoNextNorm a.listed a.waiting d → AtNone k d end
+  at_none : {k d : ℕ} {end : End} → EndsIn S limits k d end → (a : ListsAt S k d) → HasNoNextNorm a.listed a.waiting d → AtNone k d end
   at_none {k} {d} (by_norm_overflow {e = f} b next large) a p = absurd (next_or_none S k d f b a next p)
   at_none {k} {d} (by_pairs_spent {e = f} b next small u more) a p = absurd (next_or_none S k d f b a next p)
   at_none {k} {d} (by_rows_spent {e = f} b after next small u fits l more) a p = absurd (next_or_none S k d f b a next p)

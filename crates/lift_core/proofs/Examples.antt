@@ -8,14 +8,13 @@ use Rattle.std.proofs.lemmas.Int.{ints}
 use Rattle.std.proofs.lemmas.Bool.{cases_lt, le-leb, leb-true}
 use borrow.Author.Differences.{same_out}
 use Rattle.std.proofs.lemmas.List.Kept.{IsStrictlySortedBy-filter}
-use Rattle.int_vector.specs.Vectors.{norm, dot, ◌⊑◌, IsWithin}
+use Rattle.int_vector.specs.Vectors.{norm, dot, ◌⊑◌, IsWithin, leads_negative, negated}
 use Rattle.int_vector.proofs.Numbers.{within_from_parts}
 use Rattle.int_vector.proofs.Vectors.{norm_positive}
-use Rattle.lift_core.specs.Systems.{LinearSystem, row, HasSign, ObeysCaps, Solves}
-use Rattle.lift_core.specs.Extended.{extend}
-use Rattle.lift_core.specs.Stages.{norm_cmp, stage_norm, IsStageVector, IsStageMinimal, IsMinimalSolution, IsListed, IsStageList, AreUsed}
+use Rattle.lift_core.specs.Systems.{LinearSystem, row, ObeysCaps, Solves, IsMinimalSolution}
+use Rattle.lift_core.specs.Columns.{HasSign}
+use Rattle.lift_core.specs.Stages.{extend, norm_cmp, stage_norm, IsStageVector, IsStageMinimal, IsListed, IsStageList, AreUsed}
 use Rattle.lift_core.specs.Ends.{IsSolutionList, leaves_range}
-use Rattle.lift_core.specs.Written.{leads_negative, negated}
 use Rattle.lift_core.proofs.Lists.{each_contained}
 use Rattle.lift_core.proofs.Orders.{in_filter, from_filter}
 use Rattle.lift_core.proofs.Extended.{extended_positive}
@@ -213,7 +212,7 @@ polygon = record {
 }
 
 abbrev point : ℕ → ℕ → ℕ → ℕ → ℕ → ℕ → List ℤ
-point x y a b c home = pos x ∷ pos y ∷ pos a ∷ pos b ∷ pos c ∷ pos home ∷ []
+point x y a b c x0 = pos x ∷ pos y ∷ pos a ∷ pos b ∷ pos c ∷ pos x0 ∷ []
 
 -- the directions (1, 1), (1, 2) and (1, 3)
 direction_one : IsMinimalSolution polygon 3 (point 1 1 0 2 2 0)

@@ -4,8 +4,9 @@ use Rattle.std.proofs.Common.{◌≡◌, zero, suc, ◌+◌, ◌<◌, List, [], 
 use Rattle.std.specs.Prelude.{ℤ, pos, nat_abs, ◌-ℤ◌, ◌+ℤ◌, ◌*ℤ◌}
 use Rattle.std.proofs.lemmas.Int.{ints}
 use borrow.Author.Differences.{same_in}
-use Rattle.int_vector.specs.Vectors.{norm, dot, ◌⊑◌, IsWithin, IsZero, subtract}
-use Rattle.lift_core.specs.Extended.{extend, IsExtended}
+use Rattle.int_vector.specs.Vectors.{norm, dot, ◌⊑◌, IsWithin, IsZero}
+use Rattle.int_vector.specs.Operations.{subtract}
+use Rattle.lift_core.specs.Stages.{extend, IsExtended}
 use Rattle.int_vector.proofs.Vectors.{below_refl, below_norm, below_same, length-below, zero_from_norm, dot-subtract}
 use Rattle.lift_core.proofs.Minimal.{IsClosed}
 use Rattle.lift_core.proofs.Systems.{Test, test_same}

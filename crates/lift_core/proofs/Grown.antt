@@ -6,10 +6,12 @@ use Rattle.std.specs.List.{Contains}
 use Rattle.std.proofs.lemmas.Bool.{cases_lt, cases_eq}
 use Rattle.std.proofs.lemmas.Int.{ints}
 use borrow.Author.Differences.{up, down}
-use Rattle.int_vector.specs.Vectors.{◌⊑◌, IsWithin, add}
+use Rattle.int_vector.specs.Vectors.{◌⊑◌, IsWithin}
+use Rattle.int_vector.specs.Operations.{add}
 use Rattle.lift_core.specs.Systems.{LinearSystem}
-use Rattle.lift_core.specs.Stages.{front, last, stage_norm, norm_cmp, HasSum, IsIrreducible, IsNewSum, IsWaitingAt}
-use Rattle.lift_core.specs.Ends.{IsGrown}
+use Rattle.lift_core.specs.Stages.{front, last, stage_norm, norm_cmp, IsWaitingAt}
+use Rattle.lift_core.specs.Inside.PairSums.{HasSum, IsIrreducible, IsNewSum}
+use Rattle.lift_core.specs.Inside.Walks.{IsGrown}
 use Rattle.int_vector.proofs.Numbers.{within_parts, within_from_parts}
 use Rattle.lift_core.proofs.Systems.{Test, test_zip, test_each, test_at_most, test_caps}
 use Rattle.lift_core.proofs.Lists.{each_contained, each_from_contained}

@@ -5,10 +5,11 @@ use Rattle.std.proofs.Common.{◌≡◌, ℕ, zero, suc, ◌+◌, ◌-◌, ◌�
 use Rattle.std.specs.Prelude.{ℤ, ◌↔◌}
 use Rattle.std.specs.List.{Contains}
 use Rattle.std.proofs.lemmas.Bool.{cases_lt}
-use Rattle.int_vector.specs.Vectors.{norm, dot, ◌⊑◌, IsZero, add, AreConformal}
-use Rattle.lift_core.specs.Systems.{LinearSystem, row, Solves, ObeysCaps}
-use Rattle.lift_core.specs.Extended.{extend}
-use Rattle.lift_core.specs.Stages.{front, stage_norm, IsStageVector, IsStageMinimal, IsMinimalSolution, IsListed, IsWaiting, IsStageList, HasSum, IsNewSum, IsWaitingAt, Occurs, IsNextNorm, HasNoNextNorm}
+use Rattle.int_vector.specs.Vectors.{norm, dot, ◌⊑◌, IsZero}
+use Rattle.int_vector.specs.Operations.{add, AreConformal}
+use Rattle.lift_core.specs.Systems.{LinearSystem, row, Solves, ObeysCaps, IsMinimalSolution}
+use Rattle.lift_core.specs.Stages.{extend, front, stage_norm, IsStageVector, IsStageMinimal, IsListed, IsWaiting, IsStageList, IsWaitingAt, Occurs, IsNextNorm, HasNoNextNorm}
+use Rattle.lift_core.specs.Inside.PairSums.{HasSum, IsNewSum}
 use Rattle.int_vector.proofs.Vectors.{below_trans, below_norm, below_same, norm_positive, nonzero_from_norm, sum_norm, length-conformal}
 use Rattle.lift_core.proofs.Minimal.{minimal_below}
 use Rattle.lift_core.proofs.Systems.{solves_closed, solves_sum}

@@ -6,9 +6,10 @@ use Rattle.std.specs.Prelude.{ℤ, pos, nat_abs, ◌+ℤ◌, ◌-ℤ◌, ◌<ℤ
 use Rattle.std.proofs.lemmas.Bool.{cases_lt}
 use Rattle.std.proofs.lemmas.Int.{ints}
 use borrow.Author.Differences.{same_in}
-use Rattle.int_vector.specs.Vectors.{norm, dot, ◌⊑◌, IsWithin, subtract}
-use Rattle.lift_core.specs.Minimal.{IsMinimal}
-use Rattle.lift_core.specs.Extended.{extend, IsExtended}
+use Rattle.int_vector.specs.Vectors.{norm, dot, ◌⊑◌, IsWithin}
+use Rattle.int_vector.specs.Operations.{subtract}
+use Rattle.lift_core.specs.Systems.{IsMinimal}
+use Rattle.lift_core.specs.Stages.{extend, IsExtended}
 use Rattle.int_vector.proofs.Vectors.{below_trans, below_same, length-below, norm_positive, nonzero_from_norm, difference_below, difference_norm, dot-subtract}
 use Rattle.lift_core.proofs.Minimal.{IsClosed, Smaller, minimal_or_smaller}
 use Rattle.lift_core.proofs.Extended.{below_push, pushed_below, same_pushed, extended_positive, positive_extended, extended_closed}

@@ -5,9 +5,10 @@ use Rattle.std.proofs.Common.{◌≡◌, ℕ, zero, suc, ◌≤◌, ◌<◌, Lis
 use Rattle.std.specs.Prelude.{ℤ, pos}
 use Rattle.std.specs.List.{AllByRecursion}
 use Rattle.std.proofs.lemmas.Bool.{cases_lt}
-use Rattle.int_vector.specs.Vectors.{norm, ◌⊑◌, IsZero, add, subtract, total}
-use Rattle.lift_core.specs.Minimal.{IsMinimal}
-use Rattle.lift_core.specs.Sums.{IsDecomposition}
+use Rattle.int_vector.specs.Vectors.{norm, ◌⊑◌, IsZero}
+use Rattle.int_vector.specs.Operations.{add, subtract, total}
+use Rattle.lift_core.specs.Systems.{IsMinimal}
+use Rattle.lift_core.specs.Inside.Decompositions.{IsDecomposition}
 use Rattle.int_vector.proofs.Vectors.{below_refl, below_trans, below_same, length-below, zero_from_norm, norm_positive, nonzero_from_norm, difference_below, difference_norm, add-subtract}
 use Rattle.lift_core.proofs.Search.{search_below}
 

@@ -8,8 +8,8 @@ use Rattle.std.specs.Cmp.{IsTotalOrder, nat_cmp_total, int_cmp_total, on_total, 
 use Rattle.std.specs.Cmp.Lexicographic.{lists_total}
 use Rattle.std.specs.FinMap.{int_cmp-IsAntisymmetric, slice_cmp-IsAntisymmetric}
 use Rattle.std.specs.Ordering.{ordering_then, nat_cmp, int_cmp}
-use Rattle.int_vector.specs.Vectors.{norm}
-use Rattle.lift_core.specs.Stages.{stage_norm, lex_cmp, norm_cmp}
+use Rattle.int_vector.specs.Vectors.{norm, lex_cmp}
+use Rattle.lift_core.specs.Stages.{stage_norm, norm_cmp}
 use Rattle.lift_core.specs.Ends.{solution_cmp}
 use Rattle.lift_core.proofs.Lists.{contains_cases, contains_head, contains_tail, contains_nothing}
 use Rattle.lift_core.proofs.Stages.{front-push}

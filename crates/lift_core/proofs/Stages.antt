@@ -2,11 +2,10 @@
 -- It is the descent for the solutions of the rows before row k and for row k; of the two summands the one with the positive last entry is named first.
 use Rattle.std.proofs.Common.{◌≡◌, ℕ, zero, suc, ◌+◌, ◌-◌, ◌<◌, List, [], ◌∷◌, ◌++◌, length, take, get_or, refl, ap, sym, ◌∙◌, subst, subst₂, arith, inl, inr, ◌⊎◌}
 use Rattle.std.specs.Prelude.{ℤ, pos, ◌-ℤ◌, ◌+ℤ◌, ◌<ℤ◌}
-use Rattle.int_vector.specs.Vectors.{norm, dot, ◌⊑◌, add, subtract, AreConformal}
-use Rattle.lift_core.specs.Minimal.{IsMinimal}
-use Rattle.lift_core.specs.Systems.{LinearSystem, row, Solves}
-use Rattle.lift_core.specs.Extended.{extend, IsExtended}
-use Rattle.lift_core.specs.Stages.{front, last, stage_norm, IsStageMinimal, IsMinimalSolution}
+use Rattle.int_vector.specs.Vectors.{norm, dot, ◌⊑◌}
+use Rattle.int_vector.specs.Operations.{add, subtract, AreConformal}
+use Rattle.lift_core.specs.Systems.{IsMinimal, LinearSystem, row, Solves, IsMinimalSolution}
+use Rattle.lift_core.specs.Stages.{extend, IsExtended, front, last, stage_norm, IsStageMinimal}
 use Rattle.int_vector.proofs.Vectors.{length-below, difference_below, difference_norm, dot-subtract, dot-add, add-subtract, add_comm, conformal_within}
 use Rattle.lift_core.proofs.Systems.{solves_closed}
 use Rattle.lift_core.proofs.Lifting.{minimal_or_parts, opposite}

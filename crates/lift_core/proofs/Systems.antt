@@ -7,8 +7,10 @@ use Rattle.std.proofs.lemmas.Bool.{cases_lt}
 use Rattle.std.proofs.lemmas.Int.{ints}
 use Rattle.std.proofs.lemmas.List.Elements.{length_all_zip}
 use borrow.Author.Differences.{up, down, same_in, same_out}
-use Rattle.int_vector.specs.Vectors.{dot, ◌⊑◌, IsWithin, add, subtract}
-use Rattle.lift_core.specs.Systems.{LinearSystem, HasSign, IsCapped, Solves, ObeysCaps}
+use Rattle.int_vector.specs.Vectors.{dot, ◌⊑◌, IsWithin}
+use Rattle.int_vector.specs.Operations.{add, subtract}
+use Rattle.lift_core.specs.Systems.{LinearSystem, Solves, ObeysCaps}
+use Rattle.lift_core.specs.Columns.{HasSign, IsCapped}
 use Rattle.int_vector.proofs.Numbers.{within_parts, one_part}
 use Rattle.int_vector.proofs.Vectors.{length-below, difference_below, dot-subtract, dot-add}
 use Rattle.lift_core.proofs.Minimal.{IsClosed}

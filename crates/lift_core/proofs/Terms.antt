@@ -6,10 +6,11 @@ use Rattle.std.specs.List.{Contains, count_by}
 use Rattle.std.specs.Ordering.{int_eq}
 use Rattle.std.proofs.lemmas.List.Sums.{sum_by-cons}
 use borrow.Author.Differences.{up}
-use Rattle.int_vector.specs.Vectors.{◌⊑◌, IsWithin, add, total}
+use Rattle.int_vector.specs.Vectors.{◌⊑◌, IsWithin}
+use Rattle.int_vector.specs.Operations.{add, total}
 use Rattle.lift_core.specs.Systems.{LinearSystem, Solves, row}
 use Rattle.lift_core.specs.Stages.{IsStageVector}
-use Rattle.lift_core.specs.Sums.{IsDecomposition}
+use Rattle.lift_core.specs.Inside.Decompositions.{IsDecomposition}
 use Rattle.int_vector.proofs.Numbers.{within_parts, within_from_parts}
 use Rattle.int_vector.proofs.Vectors.{length-below}
 use Rattle.lift_core.proofs.Lists.{contains_head, contains_tail, each_contained}

@@ -5,7 +5,8 @@ use Rattle.std.specs.Prelude.{ℤ, pos, ◌+ℤ◌}
 use Rattle.std.specs.List.{Contains}
 use Rattle.std.proofs.lemmas.Int.{ints}
 use borrow.Author.Differences.{same_in}
-use Rattle.int_vector.specs.Vectors.{norm, add, total}
+use Rattle.int_vector.specs.Vectors.{norm}
+use Rattle.int_vector.specs.Operations.{add, total}
 use Rattle.int_vector.proofs.Sums.{length-add}
 use Rattle.lift_core.proofs.Lists.{contains_head, contains_tail}
 

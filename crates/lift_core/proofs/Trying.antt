@@ -8,9 +8,8 @@ use Rattle.std.proofs.lemmas.Bool.{cases_lt, leb-true, ne_eqb}
 use Rattle.std.proofs.lemmas.Bool.Decides.{Decides-int_eq}
 use Rattle.int_vector.specs.Vectors.{norm, dot, ◌⊑◌}
 use Rattle.int_vector.proofs.Vectors.{below_same, norm_positive, nonzero_from_norm}
-use Rattle.lift_core.specs.Minimal.{IsMinimal}
-use Rattle.lift_core.specs.Systems.{LinearSystem, row, Solves}
-use Rattle.lift_core.specs.Stages.{front, last, IsStageVector, IsStageMinimal, IsMinimalSolution}
+use Rattle.lift_core.specs.Systems.{IsMinimal, LinearSystem, row, Solves, IsMinimalSolution}
+use Rattle.lift_core.specs.Stages.{front, last, IsStageVector, IsStageMinimal}
 use Rattle.lift_core.proofs.Search.{toward, only_empty, from_each}
 use Rattle.lift_core.proofs.Stages.{last-push}
 use Rattle.lift_core.proofs.Growth.{stage_front}

@@ -3,9 +3,11 @@
 use Rattle.std.proofs.Common.{◌⊎◌, ◌≡◌, ℕ, zero, suc, ◌+◌, ◌-◌, ◌≤◌, ◌<◌, List, ap₂, sym, ◌∙◌, subst₂, arith, Option, Some, None}
 use Rattle.std.specs.Prelude.{ℤ}
 use Rattle.std.specs.List.{Contains}
-use Rattle.lift_core.specs.Systems.{LinearSystem}
-use Rattle.lift_core.specs.Stages.{stage_norm, norm_cmp, front, IsStageVector, IsStageMinimal, IsMinimalSolution, IsListed, IsWaiting, IsStageList, IsNextNorm, HasNoNextNorm, IsWaitingAt, IsNewSum, pairs_within, all_pairs, ArePairsBefore, AreUsed}
-use Rattle.lift_core.specs.Ends.{IsGrown, Lists, IsSolutionList, solution_cmp}
+use Rattle.lift_core.specs.Systems.{LinearSystem, IsMinimalSolution}
+use Rattle.lift_core.specs.Stages.{stage_norm, norm_cmp, front, IsStageVector, IsStageMinimal, IsListed, IsWaiting, IsStageList, IsNextNorm, HasNoNextNorm, IsWaitingAt, pairs_within, all_pairs, ArePairsBefore, AreUsed}
+use Rattle.lift_core.specs.Inside.PairSums.{IsNewSum}
+use Rattle.lift_core.specs.Inside.Walks.{IsGrown}
+use Rattle.lift_core.specs.Ends.{ListsAt, IsSolutionList, solution_cmp}
 use Rattle.lift_core.proofs.Lists.{one_list}
 use Rattle.lift_core.proofs.Orders.{norm_cmp_total, solution_cmp_total}
 
@@ -30,12 +32,12 @@ module _ (S : LinearSystem) where
   pub one_used : (k e m n : ℕ) → AreUsed S k e m → AreUsed S k e n → m ≡ n
   one_used k e m n p q = p.sum ∙ ap₂ (λ a b. a + pairs_within b e) (one_before k p.before q.before p.pairs_before q.pairs_before) (one_listed k e p.listed q.listed p.is_listed q.is_listed) ∙ sym q.sum
 
-  pub one_next : (k d e f : ℕ) (a b : Lists S k d) → IsNextNorm a.listed a.waiting d e → IsNextNorm b.listed b.waiting d f → e ≡ f
+  pub one_next : (k d e f : ℕ) (a b : ListsAt S k d) → IsNextNorm a.listed a.waiting d e → IsNextNorm b.listed b.waiting d f → e ≡ f
   one_next k d e f a b p q =
       let moved : IsNextNorm b.listed b.waiting d e = subst₂ (λ (l w : List (List ℤ)). IsNextNorm l w d e) (one_listed k d a.listed b.listed a.is_listed b.is_listed) (one_waiting k d a.waiting b.waiting a.is_waiting b.is_waiting) p in
       omega (arith, moved.least f q.above q.occurs, q.least e moved.above moved.occurs)
 
-  pub next_or_none : (k d e : ℕ) (a b : Lists S k d) → IsNextNorm a.listed a.waiting d e → HasNoNextNorm b.listed b.waiting d → ⊥
+  pub next_or_none : (k d e : ℕ) (a b : ListsAt S k d) → IsNextNorm a.listed a.waiting d e → HasNoNextNorm b.listed b.waiting d → ⊥
   next_or_none k d e a b p q =
       let moved : IsNextNorm b.listed b.waiting d e = subst₂ (λ (l w : List (List ℤ)). IsNextNorm l w d e) (one_listed k d a.listed b.listed a.is_listed b.is_listed) (one_waiting k d a.waiting b.waiting a.is_waiting b.is_waiting) p in
       q e moved.above moved.occurs

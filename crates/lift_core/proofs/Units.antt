@@ -6,9 +6,9 @@ use Rattle.std.specs.List.{AllZip}
 use Rattle.std.proofs.lemmas.Int.{ints}
 use Rattle.std.proofs.lemmas.Bool.{cases_lt}
 use Rattle.int_vector.specs.Vectors.{norm, ◌⊑◌, IsWithin}
-use Rattle.lift_core.specs.Systems.{LinearSystem, HasSign, IsCapped, Solves}
-use Rattle.lift_core.specs.Stages.{IsMinimalSolution}
-use Rattle.lift_core.specs.Units.{unit, IsSignedUnit}
+use Rattle.lift_core.specs.Systems.{LinearSystem, Solves, IsMinimalSolution}
+use Rattle.lift_core.specs.Columns.{HasSign, IsCapped}
+use Rattle.lift_core.specs.Inside.Units.{unit, IsSignedUnit}
 use Rattle.int_vector.proofs.Numbers.{within_from_parts}
 use Rattle.int_vector.proofs.Vectors.{below_same, norm_positive, nonzero_from_norm}
 use Rattle.lift_core.proofs.Totals.{norm-zeros}

@@ -4,9 +4,9 @@
 use Rattle.std.proofs.Common.{◌≡◌, ℕ, zero, suc, ◌+◌, ◌≤◌, ◌<◌, List, [], length, refl, sym, subst, arith}
 use Rattle.std.specs.Prelude.{map, ℤ}
 use Rattle.lift_core.specs.Systems.{LinearSystem, row}
-use Rattle.lift_core.specs.Extended.{extend}
-use Rattle.lift_core.specs.Stages.{last, IsListed, IsWaiting, IsStageList, all_pairs, ArePairsBefore, AreUsed}
-use Rattle.lift_core.specs.Ends.{End, RunEnds, from_stage_one, Limits, Lists, EndsIn, by_norm_overflow, by_pairs_spent, by_rows_spent, by_closing, by_row_overflow, by_next_stage, by_finish, WalkEnds, walk_norm_overflow, walk_pairs_spent, walk_rows_spent, walk_closing, walk_row_overflow, walk_next_stage, walk_finish, IsSolutionList, solutions_in, IsGrown, used_up_to}
+use Rattle.lift_core.specs.Stages.{extend, last, IsListed, IsWaiting, IsStageList, all_pairs, ArePairsBefore, AreUsed}
+use Rattle.lift_core.specs.Ends.{End, RunEnds, from_stage_one, Limits, ListsAt, EndsIn, by_norm_overflow, by_pairs_spent, by_rows_spent, by_closing, by_row_overflow, by_next_stage, by_finish, IsSolutionList}
+use Rattle.lift_core.specs.Inside.Walks.{WalkEnds, walk_norm_overflow, walk_pairs_spent, walk_rows_spent, walk_closing, walk_row_overflow, walk_next_stage, walk_finish, solutions_in, IsGrown, used_up_to}
 use Rattle.lift_core.proofs.Growth.{complete}
 use Rattle.lift_core.proofs.Places.{grown_listed, still_waits, used_next, all_used, solutions_are, nothing_listed, solutions_wait}
 use Rattle.lift_core.proofs.Grown.{grown_exists}
@@ -19,7 +19,7 @@ pairs_before_next S (suc j) h rows l m n b e = let f : suc j + 1 ≡ suc (suc j)
 next_used : (S : LinearSystem) (k used : ℕ) → ArePairsBefore S (k + 1) used → AreUsed S (k + 1) 0 used
 next_used S k used b = record { before = used; pairs_before = b; listed = []; is_listed = nothing_listed S (k + 1); sum = omega arith }
 
-abbrev lists : (S : LinearSystem) (k d : ℕ) (listed waiting : List (List ℤ)) → IsListed S k d listed → IsWaiting S k d waiting → Lists S k d
+abbrev lists : (S : LinearSystem) (k d : ℕ) (listed waiting : List (List ℤ)) → IsListed S k d listed → IsWaiting S k d waiting → ListsAt S k d
 lists S k d listed waiting l q = record { listed = listed; waiting = waiting; is_listed = l; is_waiting = q }
 
 -- ---- the walk

@@ -1,8 +1,7 @@
 -- Of a nonzero vector and its negative exactly one leads negative: the first nonzero entry decides, and its negative has the other sign.
 use Rattle.std.proofs.Common.{◌≡◌, zero, suc, List, [], ◌∷◌, refl, not}
 use Rattle.std.specs.Prelude.{ℤ, pos, negsuc}
-use Rattle.int_vector.specs.Vectors.{IsZero}
-use Rattle.lift_core.specs.Written.{negated, leads_negative}
+use Rattle.int_vector.specs.Vectors.{IsZero, negated, leads_negative}
 
 pub one_leads_negative : (v : List ℤ) → ¬ IsZero v → leads_negative (negated v) ≡ not (leads_negative v)
 one_leads_negative [] n = absurd (n tt)

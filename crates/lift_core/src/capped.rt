@@ -1,7 +1,7 @@
 //! Which columns of a system have a cap.
 
 ghost use Rattle.std.specs.Prelude.{◌≡◌, ◌≤◌, length};
-ghost use Rattle.lift_core.specs.Capped.{capped_from};
+ghost use Rattle.lift_core.specs.Inside.Capped.{capped_from};
 
 use std::marker::Model;
 

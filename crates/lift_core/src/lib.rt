@@ -2,12 +2,15 @@
 #![tactic(auto)]
 
 mod capped;
-mod entries;
-mod equations;
+pub mod halves;
+mod int_row;
 pub mod laws;
+mod machine;
+mod system;
 
-pub use entries::IntRow;
-pub use equations::System;
+pub use int_row::IntRow;
+pub use machine::{Core, Event, StepEnd};
+pub use system::System;
 
 /// What a system is solved for, after the commands of 4ti2.
 #[derive(Clone, Copy, Debug, PartialEq, Eq, Drop)]

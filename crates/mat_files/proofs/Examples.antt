@@ -1,10 +1,8 @@
 -- The definitions against texts whose readings are known from elsewhere: each row is computed by the checker.
 use Rattle.std.proofs.Common.{◌≡◌, ℕ, ◌++◌, List, [], ◌∷◌, Result, Ok, Err, Some, None, refl, codes, pos, negsuc}
-use Rattle.mat_files.specs.Words.{words_of}
-use Rattle.mat_files.specs.Numbers.{number_value, count_value}
-use Rattle.mat_files.specs.Matrices.{Matrix, matrix_of}
+use Rattle.mat_files.specs.Words.{words_of, number_value, count_value}
+use Rattle.mat_files.specs.Cells.{Matrix, matrix_of, CapTable, cap_table_of}
 use Rattle.mat_files.specs.declared.faults.TextFault.{TextFault}
-use Rattle.mat_files.specs.Caps.{CapTable, cap_table_of}
 use Rattle.mat_files.specs.declared.faults.TextFault.TheVariants.{NotNumber, NotCap, OutOfRange, Early, Extra, TooManyRows, TooManyCols, NoCols}
 
 -- up to 64 rows and columns

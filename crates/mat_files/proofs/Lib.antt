@@ -1,8 +1,8 @@
-pub mod WordLemmas
-pub mod TableLemmas
-pub mod GrammarLemmas
-pub mod CellLemmas
-pub mod TextLemmas
-pub mod DigitLemmas
-pub mod ReadBackLemmas
+pub mod FirstWord
+pub mod CellByCell
+pub mod SpelledTables
+pub mod CellReaders
+pub mod RowByRow
+pub mod PrintedNumbers
+pub mod ReadBack
 pub mod Examples

@@ -1,8 +1,8 @@
 pub mod Words
-pub mod Numbers
 pub mod Tables
-pub mod Matrices
-pub mod Relations
-pub mod Caps
+pub mod Cells
 pub mod Texts
+pub mod Grids
+pub mod Answers
+pub mod Printed
 pub mod Grammar

@@ -1,12 +1,9 @@
 -- Tables of cells of any kind as texts: the first fault of a text in reading order, or the table that stands there.
-use Rattle.std.specs.Prelude.{◌≡◌, ℕ, ◌-◌, ◌*◌, ◌^◌, suc, zero, nat_le, ◌==◌, if◌then◌else◌, List, [], ◌∷◌, length, Option, None, Some, Result, Ok, Err, refl}
-use Rattle.std.specs.Coded.{Coded, code_by, coded×, coded_ℕ, coded_list}
-use Rattle.mat_files.specs.Words.{Word, words_of}
-use Rattle.mat_files.specs.Numbers.{count_value}
+use Rattle.std.specs.Prelude.{ℕ, ◌*◌, suc, zero, nat_le, ◌==◌, if◌then◌else◌, List, [], ◌∷◌, length, Option, None, Some, Result, Ok, Err}
+use Rattle.int_vector.specs.Vectors.{largest}
+use Rattle.mat_files.specs.Words.{Word, words_of, count_value}
 use Rattle.mat_files.specs.declared.faults.TextFault.{TextFault}
 use Rattle.mat_files.specs.declared.faults.TextFault.TheVariants.{NotNumber, OutOfRange, Early, Extra, TooManyRows, TooManyCols, NoCols}
-use Rattle.mat_files.specs.declared.faults.TextEnd.{TextEnd}
-use Rattle.mat_files.specs.declared.faults.TextEnd.TheVariants.{Bad, Memory}
 
 -- two counts, and the cells row by row
 pub record Table (C : Type 0) : Type 0 where
@@ -14,31 +11,24 @@ pub record Table (C : Type 0) : Type 0 where
   pub cols : ℕ
   pub cells : List C
 
-abbrev pub table_code : {C : Type 0} → Coded C → Coded (Table C)
-table_code {C} cell_code =
-    code_by (ℕ × (ℕ × List C)) (coded× coded_ℕ (coded× coded_ℕ (coded_list cell_code)))
-    (λ t. (t.rows, (t.cols, t.cells))) (λ p. record { rows = p.0; cols = p.1.0; cells = p.1.1 }) (λ _. refl)
-
--- the greatest absolute value
-abbrev pub greatest : ℕ
-greatest = 2 ^ 63 - 1
-
 -- the first fault ends the reading
 infixl 10 ◌>>=◌
-abbrev pub ◌>>=◌ : {A B : Type 0} → Result A TextFault → (A → Result B TextFault) → Result B TextFault
+abbrev pub ◌>>=◌ : {A B : Type 0} → Result A TextFault → (A → Result B TextFault)
+    → Result B TextFault
 (Ok x) >>= f = f x
 (Err e) >>= f = Err e
 
 -- a word's count, where it is one in range
 abbrev pub count_in_range : Word → Option ℕ → Result ℕ TextFault
 count_in_range w None = Err (NotNumber w.at)
-count_in_range w (Some n) = if nat_le n greatest then Ok n else Err (OutOfRange w.at)
+count_in_range w (Some n) = if nat_le n largest then Ok n else Err (OutOfRange w.at)
 
 abbrev pub count_at : Word → Result ℕ TextFault
 count_at w = count_in_range w (count_value w.bytes)
 
 -- the next n cells, which are all that is left of a text of this length; cell_at reads one
-abbrev pub cells_at : {C : Type 0} → (Word → Result C TextFault) → ℕ → ℕ → List Word → Result (List C) TextFault
+abbrev pub cells_at : {C : Type 0} → (Word → Result C TextFault) → ℕ → ℕ → List Word
+    → Result (List C) TextFault
 cells_at cell_at zero len [] = Ok []
 cells_at cell_at zero len (w ∷ ws) = Err (Extra w.at)
 cells_at cell_at (suc n) len [] = Err (Early len)
@@ -73,17 +63,9 @@ counts_at max_rows max_cols len ws = do
   Ok (rows, (cols, second.1))
 
 -- the first fault of a text, or the table that stands there
-abbrev pub table_of : {C : Type 0} → (Word → Result C TextFault) → ℕ → ℕ → List ℕ → Result (Table C) TextFault
+abbrev pub table_of : {C : Type 0} → (Word → Result C TextFault) → ℕ → ℕ → List ℕ
+    → Result (Table C) TextFault
 table_of cell_at max_rows max_cols text = do
   counts ← counts_at max_rows max_cols (length text) (words_of text)
   cells ← cells_at cell_at (counts.0 * counts.1.0) (length text) counts.1.1
   Ok (record { rows = counts.0; cols = counts.1.0; cells = cells })
-
--- what a function answered, seen by view, is what reading gives, unless memory ran out
-abbrev pub Fails : {Y : Type 0} → TextEnd → Result Y TextFault → Type 0
-Fails Memory read = Unit {0}
-Fails (Bad fault) read = read ≡ Err fault
-
-abbrev pub Gives : {X Y : Type 0} → (X → Y) → Result X TextEnd → Result Y TextFault → Type 0
-Gives view (Ok x) read = read ≡ Ok (view x)
-Gives view (Err e) read = Fails e read

@@ -1,8 +1,8 @@
 //! Matrices of caps.
 
 ghost use Rattle.std.specs.Prelude.{◌≡◌, ◌≤◌, ◌^◌, IfOk, Ok};
-ghost use Rattle.mat_files.specs.Caps.{cap_at, cap_table_of, CapTable};
-ghost use Rattle.mat_files.specs.Tables.{Gives};
+ghost use Rattle.mat_files.specs.Cells.{cap_at, cap_table_of, CapTable};
+ghost use Rattle.mat_files.specs.Answers.{Gives};
 ghost use Rattle.mat_files.specs.Grammar.{IsCapTextOf, IsCapWithin};
 
 use crate::numerals::cap;
@@ -32,13 +32,14 @@ pub struct CapGrid {
 }
 
 impl Model for CapGrid {
-    ghost use Rattle.mat_files.specs.Caps.{CapTable, AreCaps};
+    ghost use Rattle.mat_files.specs.Cells.{CapTable};
+    ghost use Rattle.mat_files.specs.Grids.{AreCapCells};
 
     ghost Value = { CapTable };
 
     ghost view = { λ g. record { rows = g.rows; cols = g.cols; cells = g.cells.items } };
 
-    ghost invariant = { λ g. AreCaps g.rows g.cols g.cells.items };
+    ghost invariant = { λ g. AreCapCells g.rows g.cols g.cells.items };
 }
 
 // The matrix that the text spells within the limits, or the text's first fault.
@@ -72,7 +73,8 @@ pub fn read_cap(
     requires cols { max_cols ≤ 64 }
 
     // What is read is spelled so.
-    ensures found { IfOk result (λ grid. IsCapTextOf bytes.now grid × IsCapWithin max_rows max_cols grid) }
+    ensures found { IfOk result
+        (λ grid. IsCapTextOf bytes.now grid × IsCapWithin max_rows max_cols grid) }
 
     // What is spelled so is read, unless memory runs out.
     ensures only { (m : CapTable) → IsCapTextOf bytes.now m → IsCapWithin max_rows max_cols m
@@ -80,7 +82,8 @@ pub fn read_cap(
 
     // Else the first fault is answered.
     ensures exact { Gives (λ grid. grid) result (cap_table_of max_rows max_cols bytes.now) }
-    ensures limits { IfOk result (λ grid. (grid.rows ≤ max_rows) × (grid.cols ≤ max_cols) × (1 ≤ grid.cols)) }
+    ensures limits { IfOk result
+        (λ grid. (grid.rows ≤ max_rows) × (grid.cols ≤ max_cols) × (1 ≤ grid.cols)) }
 {
     read_caps(alloc, bytes, max_rows, max_cols)
 }

@@ -1,4 +1,5 @@
-// What is wrong with a text.
+//! What is wrong with a text.
+
 ghost use Rattle.std.specs.Prelude.{◌≡◌};
 ghost use Rattle.mat_files.specs.declared.faults.TextEnd.TheVariants.{Bad, Memory};
 

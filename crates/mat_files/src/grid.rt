@@ -1,7 +1,9 @@
-// Matrices of whole numbers.
+//! Matrices of whole numbers.
+
 ghost use Rattle.std.specs.Prelude.{◌≡◌, ◌≤◌, ◌^◌, IfOk, Ok};
-ghost use Rattle.mat_files.specs.Matrices.{matrix_of, Gives, Matrix};
-ghost use Rattle.mat_files.specs.Grammar.{IsTextOf, IsWithin};
+ghost use Rattle.mat_files.specs.Cells.{matrix_of, Matrix};
+ghost use Rattle.mat_files.specs.Answers.{Gives};
+ghost use Rattle.mat_files.specs.Grammar.{IsTextOf, IsMatrixWithin};
 
 use crate::TextEnd;
 use crate::tables::read_table;
@@ -20,7 +22,8 @@ pub struct Grid {
 }
 
 impl Model for Grid {
-    ghost use Rattle.mat_files.specs.Matrices.{Matrix, IsMatrix, matrix_code};
+    ghost use Rattle.mat_files.specs.Cells.{Matrix};
+    ghost use Rattle.mat_files.specs.Grids.{IsMatrix, matrix_code};
 
     ghost Value = { Matrix };
 
@@ -62,14 +65,17 @@ pub fn read_grid(alloc: Global, bytes: &[u8], max_rows: u32, max_cols: u32) -> R
     requires cols { max_cols ≤ 64 }
 
     // What is read is spelled so.
-    ensures found { IfOk result (λ grid. IsTextOf bytes.now grid × IsWithin max_rows max_cols grid) }
+    ensures found { IfOk result
+        (λ grid. IsTextOf bytes.now grid × IsMatrixWithin max_rows max_cols grid) }
 
     // What is spelled so is read, unless memory runs out.
-    ensures only { (m : Matrix) → IsTextOf bytes.now m → IsWithin max_rows max_cols m → Gives (λ grid. grid) result (Ok m) }
+    ensures only { (m : Matrix) → IsTextOf bytes.now m → IsMatrixWithin max_rows max_cols m
+        → Gives (λ grid. grid) result (Ok m) }
 
     // Else the first fault is answered.
     ensures exact { Gives (λ grid. grid) result (matrix_of max_rows max_cols bytes.now) }
-    ensures limits { IfOk result (λ grid. (grid.rows ≤ max_rows) × (grid.cols ≤ max_cols) × (1 ≤ grid.cols)) }
+    ensures limits { IfOk result
+        (λ grid. (grid.rows ≤ max_rows) × (grid.cols ≤ max_cols) × (1 ≤ grid.cols)) }
 {
     read_matrix(alloc, bytes, max_rows, max_cols)
 }

@@ -1,10 +1,10 @@
-// Numbers in digits.
+//! Numbers in digits.
+
 ghost use Rattle.std.specs.Prelude.{◌≡◌, ◌^◌, if◌then◌else◌, min, pos, neg_ℤ, MatchOption, ℕ};
 ghost use Rattle.std.specs.Option.{option_map};
-ghost use Rattle.mat_files.specs.Numbers.{digits_value, number_value, count_value};
+ghost use Rattle.mat_files.specs.Words.{digits_value, number_value, count_value};
 ghost use Rattle.mat_files.specs.Tables.{count_at};
-ghost use Rattle.mat_files.specs.Matrices.{cell_at};
-ghost use Rattle.mat_files.specs.Caps.{cap_at};
+ghost use Rattle.mat_files.specs.Cells.{number_at, cap_at};
 
 use crate::TextFault;
 use crate::scanning::TextWord;
@@ -15,7 +15,8 @@ const CAP: u64 = 1 << 63;
 
 // The value of one or more digits, or CAP where it is greater.
 fn capped_value(digits: &[u8]) -> Option<u64>
-    ensures { MatchOption result (digits_value digits.now ≡ None) (λ m. (n : ℕ) × (digits_value digits.now ≡ Some n) × (m ≡ min n (2 ^ 63))) }
+    ensures { MatchOption result (digits_value digits.now ≡ None)
+        (λ m. (n : ℕ) × (digits_value digits.now ≡ Some n) × (m ≡ min n (2 ^ 63))) }
 {
     if digits.is_empty() {
         return None;
@@ -32,7 +33,8 @@ fn capped_value(digits: &[u8]) -> Option<u64>
 
 // Whether a minus stands first, and what stands behind the sign.
 fn split_sign(bytes: &[u8]) -> (bool, &[u8])
-    ensures { number_value bytes.now ≡ option_map (λ n. if result.0 then neg_ℤ (pos n) else pos n) (digits_value result.1.now) }
+    ensures { number_value bytes.now
+        ≡ option_map (λ n. if result.0 then neg_ℤ (pos n) else pos n) (digits_value result.1.now) }
 {
     match bytes.split_first() {
         Some((b'-', digits)) => (true, digits),
@@ -53,7 +55,7 @@ fn skip_plus(bytes: &[u8]) -> &[u8]
 
 // The number that a word stands for.
 fn number(word: &TextWord<'_>) -> Result<i64, TextFault>
-    ensures { result ≡ cell_at (record { at = word.now.at; bytes = word.now.bytes.now }) }
+    ensures { result ≡ number_at (record { at = word.now.at; bytes = word.now.bytes.now }) }
 {
     let (negative, digits) = split_sign(word.bytes);
     match capped_value(digits) {
@@ -65,7 +67,7 @@ fn number(word: &TextWord<'_>) -> Result<i64, TextFault>
 }
 
 impl Cell for i64 {
-    ghost cell_at = { cell_at };
+    ghost cell_at = { number_at };
 
     fn read(word: &TextWord<'_>) -> Result<i64, TextFault> {
         number(word)

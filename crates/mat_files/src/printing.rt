@@ -1,9 +1,11 @@
-// Printing matrices.
+//! Printing matrices.
+
 ghost use Rattle.std.specs.Prelude.{◌≡◌, ◌<◌, ◌*◌, ◌^◌, ◌++◌, length, take, decimal, IfOk, OnOk, OnErr};
 ghost use Rattle.std.specs.Fmt.{signed_decimal};
-ghost use Rattle.mat_files.specs.Matrices.{IsMatrix};
+ghost use Rattle.mat_files.specs.Grids.{IsMatrix};
 ghost use Rattle.mat_files.specs.Grammar.{IsTextOf, ReadsAs};
-ghost use Rattle.mat_files.specs.Texts.{head_of, line_of, lines_of, text_of};
+ghost use Rattle.mat_files.specs.Texts.{head_of, line_of};
+ghost use Rattle.mat_files.specs.Printed.{lines_of, text_of};
 
 use crate::Grid;
 use itoa::Buffer;

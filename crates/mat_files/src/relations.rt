@@ -1,7 +1,8 @@
-// Matrices of relations.
+//! Matrices of relations.
+
 ghost use Rattle.std.specs.Prelude.{◌≡◌, ◌≤◌, ◌^◌, IfOk, Ok};
-ghost use Rattle.mat_files.specs.Relations.{relation_at, relations_of, Relations};
-ghost use Rattle.mat_files.specs.Tables.{Gives};
+ghost use Rattle.mat_files.specs.Cells.{relation_at, relation_table_of, Relations};
+ghost use Rattle.mat_files.specs.Answers.{Gives};
 ghost use Rattle.mat_files.specs.Grammar.{IsRelTextOf, IsRelWithin};
 
 use crate::scanning::TextWord;
@@ -46,7 +47,8 @@ pub struct RelGrid {
 }
 
 impl Model for RelGrid {
-    ghost use Rattle.mat_files.specs.Relations.{Relations, AreRelations};
+    ghost use Rattle.mat_files.specs.Cells.{Relations};
+    ghost use Rattle.mat_files.specs.Grids.{AreRelations};
 
     ghost Value = { Relations };
 
@@ -64,7 +66,7 @@ fn read_relations(
 ) -> Result<RelGrid, TextEnd>
     requires rows { max_rows ≤ 2 ^ 21 }
     requires cols { max_cols ≤ 64 }
-    ensures { Gives (λ grid. grid) result (relations_of max_rows max_cols bytes.now) }
+    ensures { Gives (λ grid. grid) result (relation_table_of max_rows max_cols bytes.now) }
 {
     let table = read_table(alloc, bytes, max_rows, max_cols)?;
     Ok(RelGrid {
@@ -90,14 +92,17 @@ pub fn read_rel(
     requires cols { max_cols ≤ 64 }
 
     // What is read is spelled so.
-    ensures found { IfOk result (λ grid. IsRelTextOf bytes.now grid × IsRelWithin max_rows max_cols grid) }
+    ensures found { IfOk result
+        (λ grid. IsRelTextOf bytes.now grid × IsRelWithin max_rows max_cols grid) }
 
     // What is spelled so is read, unless memory runs out.
-    ensures only { (m : Relations) → IsRelTextOf bytes.now m → IsRelWithin max_rows max_cols m → Gives (λ grid. grid) result (Ok m) }
+    ensures only { (m : Relations) → IsRelTextOf bytes.now m → IsRelWithin max_rows max_cols m
+        → Gives (λ grid. grid) result (Ok m) }
 
     // Else the first fault is answered.
-    ensures exact { Gives (λ grid. grid) result (relations_of max_rows max_cols bytes.now) }
-    ensures limits { IfOk result (λ grid. (grid.rows ≤ max_rows) × (grid.cols ≤ max_cols) × (1 ≤ grid.cols)) }
+    ensures exact { Gives (λ grid. grid) result (relation_table_of max_rows max_cols bytes.now) }
+    ensures limits { IfOk result
+        (λ grid. (grid.rows ≤ max_rows) × (grid.cols ≤ max_cols) × (1 ≤ grid.cols)) }
 {
     read_relations(alloc, bytes, max_rows, max_cols)
 }

@@ -1,6 +1,8 @@
-// Tables of cells of any kind: two counts, and the cells row by row.
+//! Tables of cells of any kind: two counts, and the cells row by row.
+
 ghost use Rattle.std.specs.Prelude.{◌≡◌, ◌≤◌, ◌^◌, [], ◌∷◌, IfOk, MatchResult};
-ghost use Rattle.mat_files.specs.Tables.{cells_at, next_count, counts_at, table_of, Gives};
+ghost use Rattle.mat_files.specs.Tables.{cells_at, next_count, counts_at, table_of};
+ghost use Rattle.mat_files.specs.Answers.{Gives};
 ghost use Rattle.mat_files.specs.declared.faults.TextFault.TheVariants.{Early};
 
 use crate::numerals::count;
@@ -73,7 +75,8 @@ fn read_counts(
     max_cols: u32,
     len: u64,
 ) -> Result<(u32, u32), TextEnd>
-    ensures counts { Gives (λ n. (n.0, (n.1, words.new))) result (counts_at max_rows max_cols len words.old) }
+    ensures counts { Gives (λ n. (n.0, (n.1, words.new))) result
+        (counts_at max_rows max_cols len words.old) }
     ensures limits { IfOk result (λ n. (n.0 ≤ max_rows) × (n.1 ≤ max_cols) × (1 ≤ n.1)) }
 {
     let rows = read_count(words, len)?;
@@ -99,7 +102,8 @@ pub(crate) fn read_table<C: Cell + Drop>(
 ) -> Result<Cells<C>, TextEnd>
     requires rows { max_rows ≤ 2 ^ 21 }
     requires cols { max_cols ≤ 64 }
-    ensures { Gives (λ t. record { rows = t.rows; cols = t.cols; cells = t.cells.items }) result (table_of C.cell_at max_rows max_cols bytes.now) }
+    ensures { Gives (λ t. record { rows = t.rows; cols = t.cols; cells = t.cells.items }) result
+        (table_of C.cell_at max_rows max_cols bytes.now) }
 {
     let len = bytes.len() as u64;
     let mut words = TextWords::new(bytes);

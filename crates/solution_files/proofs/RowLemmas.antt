@@ -1,9 +1,8 @@
 -- The rows of a kind in the user's columns, and the rows without those whose negative is a row too.
-use Rattle.std.proofs.Common.{◌≡◌, inl, inr, ℕ, ◌<◌, ◌≤◌, ◌+◌, ◌*◌, List, [], ◌∷◌, ◌++◌, map, length, take, drop, get_or, refl, sym, ap, subst, ◌∙◌, Bool, true, false, not, cond, ◌&&◌, arith, append-nil, append_assoc, length-append, zero, suc}
-use Rattle.std.specs.Prelude.{ℤ, pos, negsuc, IsTrue, ◌↔◌, int_lt, neg_ℤ}
+use Rattle.std.proofs.Common.{◌≡◌, ℕ, ◌<◌, ◌≤◌, ◌+◌, ◌*◌, List, [], ◌∷◌, ◌++◌, length, take, drop, get_or, refl, sym, ap, subst, ◌∙◌, Bool, true, false, not, ◌&&◌, arith, append-nil, append_assoc, length-append, zero, suc}
+use Rattle.std.specs.Prelude.{ℤ, pos, negsuc, int_lt, neg_ℤ}
 use Rattle.std.specs.Borrow.{Bor}
-use Rattle.std.specs.List.{Contains, AllByRecursion, filter, list_any, flat_map, Any}
-use Rattle.std.specs.List.Sorted.{IsStrictlySortedBy}
+use Rattle.std.specs.List.{Contains, AllByRecursion, filter, flat_map, Any}
 use Rattle.std.specs.Ordering.{int_eq}
 use Rattle.std.specs.Cmp.{signed_Decides}
 use Rattle.std.specs.Cmp.Rules.{signed_items}
@@ -11,31 +10,33 @@ use Rattle.std.specs.Cmp.Lexicographic.{pointwise}
 use Rattle.std.proofs.lemmas.List.{drop_more, drop_all, map-append, length-take-le}
 use Rattle.std.proofs.lemmas.List.Folds.{Any-from_list_any, list_any_at}
 use Rattle.std.proofs.lemmas.List.Kept.{IsStrictlySortedBy-filter}
-use Rattle.int_vector.specs.Vectors.{sign, leading_entry}
-use Rattle.mat_files.specs.Matrices.{IsMatrix, IsSmall}
+use Rattle.int_vector.specs.Operations.{sign, leading_entry}
+use Rattle.mat_files.specs.Grids.{IsMatrix}
+use Rattle.int_vector.specs.Range.{InRange}
 use Rattle.lift_core.specs.declared.Tool.{Tool}
 use Rattle.lift_core.specs.declared.Tool.TheVariants.{Graver, Hilbert, Zsolve}
-use Rattle.lift_core.specs.Systems.{InRange}
 use Rattle.lift_core.specs.Lists.{IsListOf}
-use Rattle.lift_core.specs.Stages.{last, lex_cmp}
-use Rattle.lift_core.specs.Written.{Kind, Homogeneous, Inhomogeneous, Every, HasHome, leads_negative, negated}
+use Rattle.lift_core.specs.Stages.{last}
+use Rattle.int_vector.specs.Vectors.{lex_cmp, leads_negative, negated}
+use Rattle.lift_core.specs.Columns.{Kind, Homogeneous, Inhomogeneous, Every}
+use Rattle.lift_core.specs.Inside.Written.{HasX0}
 use Rattle.lift_core.proofs.Lists.{each_contained, each_from_contained}
 use Rattle.lift_core.proofs.Orders.{in_filter, from_filter, in_map, from_map}
 use Rattle.solution_files.specs.Outputs.{IsProjected, IsTaken}
 use Rattle.solution_files.specs.Steps.{rows_behind, is_of_kind, projected, AreRows, IsOrdered, is_among, is_left_out, without_negatives}
 
 -- ---- the rows of a kind
-home_of_kind : (kind : Kind) (v : List ℤ) → is_of_kind kind v ≡ true → HasHome kind v
+home_of_kind : (kind : Kind) (v : List ℤ) → is_of_kind kind v ≡ true → HasX0 kind v
 home_of_kind Homogeneous v e = (signed_Decides (last v) (pos 0)).0 e
 home_of_kind Inhomogeneous v e = (signed_Decides (last v) (pos 1)).0 e
 home_of_kind Every v e = tt
 
-kind_of_home : (kind : Kind) (v : List ℤ) → HasHome kind v → is_of_kind kind v ≡ true
+kind_of_home : (kind : Kind) (v : List ℤ) → HasX0 kind v → is_of_kind kind v ≡ true
 kind_of_home Homogeneous v h = (signed_Decides (last v) (pos 0)).1 h
 kind_of_home Inhomogeneous v h = (signed_Decides (last v) (pos 1)).1 h
 kind_of_home Every v h = refl
 
-not_of_kind : (kind : Kind) (v : List ℤ) → (HasHome kind v → ⊥) → is_of_kind kind v ≡ false
+not_of_kind : (kind : Kind) (v : List ℤ) → (HasX0 kind v → ⊥) → is_of_kind kind v ≡ false
 not_of_kind kind v other = elim (is_of_kind kind v) as (λ b. is_of_kind kind v ≡ b → is_of_kind kind v ≡ false) [ true ↦ λ e. absurd (other (home_of_kind kind v e)) | false ↦ λ e. e ] refl
 
 in_projected : (finished : List (List ℤ)) (n : ℕ) (kind : Kind) (x : List ℤ) → IsProjected finished n kind x → Contains (projected n kind finished) x
@@ -83,7 +84,7 @@ rows_ordered n before after ordered shape =
     each_from_contained (λ r. (length r ≡ n) × AllByRecursion InRange r) after
     (λ x c. each_contained (λ r. (length r ≡ n) × AllByRecursion InRange r) before x shape ((ordered.members x).0 c))
 
-pub one_more_taken : (n : ℕ) (kind : Kind) (finished : List (List ℤ)) (place : ℕ) (row : List ℤ) (refs refs' : List (Bor (List ℤ))) (r : Bor (List ℤ)) (all : List (List ℤ)) → place < length finished → row ≡ get_or finished place [] → HasHome kind row → r.now ≡ take n row → refs' ≡ refs ++ r ∷ [] →
+pub one_more_taken : (n : ℕ) (kind : Kind) (finished : List (List ℤ)) (place : ℕ) (row : List ℤ) (refs refs' : List (Bor (List ℤ))) (r : Bor (List ℤ)) (all : List (List ℤ)) → place < length finished → row ≡ get_or finished place [] → HasX0 kind row → r.now ≡ take n row → refs' ≡ refs ++ r ∷ [] →
     rows_behind refs ++ projected n kind (drop place finished) ≡ all → rows_behind refs' ++ projected n kind (drop (place + 1) finished) ≡ all
 one_more_taken n kind finished place row refs refs' r all h is e first pushed so_far =
     ap (λ u. u ++ projected n kind (drop (place + 1) finished)) (ap rows_behind pushed ∙ behind_pushed refs r ∙ ap (λ v. rows_behind refs ++ v ∷ []) first)
@@ -91,7 +92,7 @@ one_more_taken n kind finished place row refs refs' r all h is e first pushed so
     ∙ ap (λ u. rows_behind refs ++ u) (sym (projected_taken n kind row (drop (place + 1) finished) (kind_of_home kind row e)) ∙ ap (λ v. projected n kind (v ∷ drop (place + 1) finished)) is ∙ ap (projected n kind) (sym (drop_more finished place [] h)))
     ∙ so_far
 
-pub one_more_passed : (n : ℕ) (kind : Kind) (finished : List (List ℤ)) (place : ℕ) (row : List ℤ) (refs : List (Bor (List ℤ))) (all : List (List ℤ)) → place < length finished → row ≡ get_or finished place [] → (HasHome kind row → ⊥) →
+pub one_more_passed : (n : ℕ) (kind : Kind) (finished : List (List ℤ)) (place : ℕ) (row : List ℤ) (refs : List (Bor (List ℤ))) (all : List (List ℤ)) → place < length finished → row ≡ get_or finished place [] → (HasX0 kind row → ⊥) →
     rows_behind refs ++ projected n kind (drop place finished) ≡ all → rows_behind refs ++ projected n kind (drop (place + 1) finished) ≡ all
 one_more_passed n kind finished place row refs all h is e so_far =
     ap (λ u. rows_behind refs ++ u) (sym (projected_passed n kind row (drop (place + 1) finished) (not_of_kind kind row e)) ∙ ap (λ v. projected n kind (v ∷ drop (place + 1) finished)) is ∙ ap (projected n kind) (sym (drop_more finished place [] h)))
@@ -214,9 +215,9 @@ length-cells n [] h = let e : 0 ≡ 0 * n = omega arith in e
 length-cells n (row ∷ rows) h =
     length-append row (flat_map (λ x. x) rows) ∙ ap (λ k. k + length (flat_map (λ x. x) rows)) h.0.0 ∙ ap (λ k. n + k) (length-cells n rows h.1) ∙ (let e : n + length rows * n ≡ length (row ∷ rows) * n = omega arith in e)
 
-cells_small : (n : ℕ) (rows : List (List ℤ)) → AreRows n rows → AllByRecursion IsSmall (flat_map (λ x. x) rows)
+cells_small : (n : ℕ) (rows : List (List ℤ)) → AreRows n rows → AllByRecursion InRange (flat_map (λ x. x) rows)
 cells_small n [] h = tt
-cells_small n (row ∷ rows) h = each_appended IsSmall row (flat_map (λ x. x) rows) h.0.1 (cells_small n rows h.1)
+cells_small n (row ∷ rows) h = each_appended InRange row (flat_map (λ x. x) rows) h.0.1 (cells_small n rows h.1)
 
 pub rows_matrix : (n : ℕ) (rows : List (List ℤ)) (count : ℕ) (cells : List ℤ) → 1 ≤ n → AreRows n rows → count ≡ length rows → cells ≡ flat_map (λ x. x) rows → IsMatrix count n cells
 rows_matrix n rows count cells some shape counted laid =

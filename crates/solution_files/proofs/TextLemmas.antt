@@ -3,7 +3,8 @@ use Rattle.std.proofs.Common.{◌≡◌, ℕ, List, [], ◌∷◌, ◌++◌, len
 use Rattle.std.specs.Prelude.{ℤ}
 use Rattle.std.specs.List.{flat_map, AllByRecursion}
 use Rattle.std.proofs.lemmas.List.{take_at, drop_at}
-use Rattle.mat_files.specs.Texts.{line_of, lines_of, head_of, text_of}
+use Rattle.mat_files.specs.Texts.{line_of, head_of}
+use Rattle.mat_files.specs.Printed.{lines_of, text_of}
 use Rattle.solution_files.specs.Outputs.{grid_of, text_of_rows}
 
 lines_of-rows : (n : ℕ) (rows : List (List ℤ)) → AllByRecursion (λ row. length row ≡ n) rows → lines_of (length rows) n (flat_map (λ row. row) rows) ≡ flat_map line_of rows

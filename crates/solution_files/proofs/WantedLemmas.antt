@@ -1,14 +1,14 @@
 -- What is selected from all minimal solutions is what is wanted.
-use Rattle.std.proofs.Common.{◌≡◌, ℕ, List, length, refl, sym, subst, ◌∙◌}
-use Rattle.std.specs.Prelude.{ℤ, IsTrue, ◌↔◌}
-use Rattle.std.specs.List.{Contains}
+use Rattle.std.proofs.Common.{◌≡◌, ℕ, List, length, refl, subst}
+use Rattle.std.specs.Prelude.{ℤ}
 use Rattle.lift_core.specs.declared.Tool.{Tool}
 use Rattle.lift_core.specs.declared.Tool.TheVariants.{Graver, Hilbert, Zsolve}
-use Rattle.lift_core.specs.Systems.{ToolSystem, LinearSystem}
+use Rattle.lift_core.specs.Systems.{LinearSystem}
 use Rattle.lift_core.specs.Lists.{IsListOf}
-use Rattle.lift_core.specs.Stages.{lex_cmp}
+use Rattle.int_vector.specs.Vectors.{lex_cmp, negated}
 use Rattle.lift_core.specs.Ends.{IsSolutionList}
-use Rattle.lift_core.specs.Written.{Kind, Every, IsWrittenOf, IsWanted, IsWantedGraver, leads_negative, negated}
+use Rattle.lift_core.specs.Columns.{Kind, Every}
+use Rattle.lift_core.specs.Inside.Written.{IsWrittenOf, IsWanted, IsWantedGraver}
 use Rattle.solution_files.specs.Outputs.{IsProjected, IsTaken}
 
 -- the same members, the same list
@@ -17,10 +17,10 @@ list_of_both f g h = record { ascending = h.ascending; members = λ x. (λ c. f 
 
 module _ (S : LinearSystem) (n : ℕ) (finished : List (List ℤ)) (all : IsSolutionList S (length S.rows) finished) where
   written_from_projected : (kind : Kind) (x : List ℤ) → IsProjected finished n kind x → IsWrittenOf S n kind x
-  written_from_projected kind x p = record { solution = p.solution; minimal = (all.members p.solution).0 p.among; home = p.home; is = p.is }
+  written_from_projected kind x p = record { solution = p.solution; minimal = (all.members p.solution).0 p.among; x0 = p.home; is = p.is }
 
   projected_from_written : (kind : Kind) (x : List ℤ) → IsWrittenOf S n kind x → IsProjected finished n kind x
-  projected_from_written kind x w = record { solution = w.solution; among = (all.members w.solution).1 w.minimal; home = w.home; is = w.is }
+  projected_from_written kind x w = record { solution = w.solution; among = (all.members w.solution).1 w.minimal; home = w.x0; is = w.is }
 
   pub wanted_plain : (tool : Tool) (kind : Kind) (rows : List (List ℤ)) → (tool ≡ Graver → ⊥) → IsListOf lex_cmp (IsTaken tool finished n kind) rows → IsWanted S n kind rows
   wanted_plain Graver kind rows other h = absurd (other refl)

@@ -1,18 +1,17 @@
 -- What is written: which rows, the grid that has them, its text, and the files behind the writing.
-use Rattle.std.specs.Prelude.{◌≡◌, ◌⊎◌, ℕ, ℤ, List, [], ◌++◌, length, take, Option, IsTrue}
-use Rattle.std.specs.Option.{option_map}
+use Rattle.std.specs.Prelude.{◌≡◌, ℕ, ℤ, List, ◌++◌, length, take, IsTrue}
 use Rattle.std.specs.List.{Contains, AllByRecursion, flat_map}
-use Rattle.std.specs.FinMap.{insert}
-use Rattle.outside.specs.Files.{Files}
-use Rattle.mat_files.specs.Matrices.{Matrix}
+pub use Rattle.outside.specs.Files.{written, MayWrite}
+use Rattle.mat_files.specs.Cells.{Matrix}
 use Rattle.mat_files.specs.Texts.{head_of, line_of}
 use Rattle.lift_core.specs.declared.Tool.{Tool}
 use Rattle.lift_core.specs.declared.Tool.TheVariants.{Graver, Hilbert, Zsolve}
 use Rattle.lift_core.specs.Systems.{ToolSystem}
 use Rattle.lift_core.specs.Lists.{IsListOf}
-use Rattle.lift_core.specs.Stages.{lex_cmp}
-use Rattle.lift_core.specs.Written.{HasHome, Homogeneous, Inhomogeneous, Every, leads_negative, negated}
-use Rattle.lift_core.specs.Written as core
+use Rattle.int_vector.specs.Vectors.{lex_cmp, leads_negative, negated}
+use Rattle.lift_core.specs.Inside.Written.{HasX0}
+use Rattle.lift_core.specs.Columns.{Homogeneous, Inhomogeneous, Every}
+use Rattle.lift_core.specs.Columns as core
 use Rattle.solution_files.specs.declared.selection.Kind.{Kind}
 use Rattle.solution_files.specs.declared.selection.Kind.TheVariants.{All, Hom, Inhom}
 
@@ -26,7 +25,7 @@ kind_of Inhom = Inhomogeneous
 pub record IsProjected (finished : List (List ℤ)) (n : ℕ) (kind : core.Kind) (x : List ℤ) : Type 0 where
   pub solution : List ℤ
   pub among : Contains finished solution
-  pub home : HasHome kind solution
+  pub home : HasX0 kind solution
   pub is : x ≡ take n solution
 
 -- these are taken; for Graver sets, of a vector and its negative, where both are there, the one that leads positive
@@ -53,11 +52,3 @@ pub record IsSelection (system : ToolSystem) (finished : List (List ℤ)) (kind 
 -- the text of rows of n entries: the two counts, and a line for each row
 abbrev pub text_of_rows : ℕ → List (List ℤ) → List ℕ
 text_of_rows n rows = head_of (length rows) n ++ flat_map line_of rows
-
--- the file has these bytes, and all others are as before
-abbrev pub written : List ℕ → List ℕ → Files → Files
-written name text files = insert files name text
-
--- a refused writing leaves the file as before, or with a prefix of the text, and all others as before
-abbrev pub MayWrite : List ℕ → List ℕ → Option Files → Option Files → Type 0
-MayWrite name text old new = (new ≡ old) ⊎ ((k : ℕ) × (new ≡ option_map (written name (take k text)) old))

@@ -2,9 +2,11 @@
 ghost use Rattle.std.specs.Prelude.{◌≡◌, ◌↔◌, ◌<◌, ◌≤◌, ◌^◌, length, neg_ℤ, IfOk, IsTrue};
 ghost use Rattle.std.specs.List.{AllByRecursion};
 ghost use Rattle.std.specs.List.Sorted.{IsStrictlySortedBy};
-ghost use Rattle.lift_core.specs.Systems.{width, InRange};
-ghost use Rattle.lift_core.specs.Stages.{last, lex_cmp};
-ghost use Rattle.lift_core.specs.Written.{HasHome, leads_negative, negated};
+ghost use Rattle.lift_core.specs.ToolSystems.{width};
+ghost use Rattle.int_vector.specs.Range.{InRange};
+ghost use Rattle.lift_core.specs.Stages.{last};
+ghost use Rattle.int_vector.specs.Vectors.{lex_cmp, leads_negative, negated};
+ghost use Rattle.lift_core.specs.Inside.Written.{HasX0};
 ghost use Rattle.solution_files.specs.Outputs.{kind_of, grid_of, IsSelected, IsSelection};
 ghost use Rattle.solution_files.specs.Steps.{rows_behind, projected, AreRows, IsOrdered, is_among, is_left_out, without_negatives};
 
@@ -37,7 +39,7 @@ fn last_entry(row: &[i64]) -> i64
 // Whether the last entry is that of the kind.
 fn is_of_kind(row: &[i64], kind: Kind) -> bool
     requires { 0 < length row.now }
-    ensures { IsTrue result ↔ HasHome (kind_of kind) row.now }
+    ensures { IsTrue result ↔ HasX0 (kind_of kind) row.now }
 {
     match kind {
         Kind::All => true,
@@ -68,8 +70,8 @@ fn rows_of_kind<'a>(
     Ok(rows)
 }
 
-// Sorts the rows, and keeps each once: two finished rows may be the same in the user's columns.
-fn put_in_order(rows: &mut Vec<&[i64]>)
+/// Sorts the rows in lexicographic order, and keeps each once.
+pub fn put_in_order(rows: &mut Vec<&[i64]>)
     ensures { IsOrdered (rows_behind rows.old.items) (rows_behind rows.new.items) }
 {
     rows.sort_unstable();
@@ -157,8 +159,11 @@ fn selected_rows<'a>(
     }
 }
 
-// The grid of the rows.
-fn lay_out(alloc: Global, columns: u32, rows: &[&[i64]]) -> Result<Grid, AllocError>
+/// The grid of the rows, each of so many columns.
+///
+/// # Errors
+/// Memory ran out.
+pub fn lay_out(alloc: Global, columns: u32, rows: &[&[i64]]) -> Result<Grid, AllocError>
     requires some { 1 ≤ columns }
     requires few { length rows.now < 2 ^ 32 }
     requires shape { AreRows columns (rows_behind rows.now) }

@@ -6,11 +6,12 @@ use Rattle.std.specs.List.Sorted.{IsStrictlySortedBy}
 use Rattle.std.proofs.lemmas.List.{take_more, append-nil}
 use Rattle.std.proofs.lemmas.List.Elements.{Contains-append_left, Contains-append_right, Contains-append_cases}
 use Rattle.std.proofs.lemmas.Grind.{flat_map-append}
-use Rattle.int_vector.specs.Vectors.{add}
+use Rattle.int_vector.specs.Operations.{add}
 use Rattle.lift_core.specs.Systems.{LinearSystem}
 use Rattle.lift_core.specs.Lists.{IsListOf}
-use Rattle.lift_core.specs.Stages.{stage_norm, lex_cmp, norm_cmp, has_positive_last, has_negative_last, IsPair, HasSum, IsIrreducible, IsNewSum, IsNextNorm}
-use Rattle.lift_core.specs.Ends.{largest}
+use Rattle.lift_core.specs.Stages.{stage_norm, norm_cmp, has_positive_last, has_negative_last, IsPair, IsNextNorm}
+use Rattle.int_vector.specs.Vectors.{lex_cmp, largest}
+use Rattle.lift_core.specs.Inside.PairSums.{HasSum, IsIrreducible, IsNewSum}
 use Rattle.lift_core.proofs.Lists.{contains_cases, contains_head, contains_tail, contains_nothing, each_contained, each_from_contained}
 use Rattle.lift_core.proofs.Orders.{in_map, from_map}
 use Rattle.stage_store.specs.Classes.{ClassValue, AreClasses, row_at, ids_of, pairs_of}

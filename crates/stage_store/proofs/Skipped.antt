@@ -10,9 +10,10 @@ use Rattle.std.proofs.Math.Seq.{take-add}
 use Rattle.std.proofs.lemmas.List.Elements.{AllZip-get_or}
 use Rattle.std.proofs.lemmas.Nat.Bits.{bit_at_ones}
 use Rattle.std.proofs.lemmas.Grind.{common_steps}
-use Rattle.int_vector.specs.Vectors.{AreConformal}
-use Rattle.lift_core.specs.Systems.{LinearSystem, width}
-use Rattle.lift_core.specs.Stages.{HasSum}
+use Rattle.int_vector.specs.Operations.{AreConformal}
+use Rattle.lift_core.specs.Systems.{LinearSystem}
+use Rattle.lift_core.specs.ToolSystems.{width}
+use Rattle.lift_core.specs.Inside.PairSums.{HasSum}
 use Rattle.lift_core.proofs.Stages.{front-take}
 use Rattle.lift_core.proofs.Lists.{contains_cases, contains_nothing}
 use Rattle.stage_store.specs.Classes.{row_at, rows_at}

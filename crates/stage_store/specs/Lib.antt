@@ -1,5 +1,6 @@
-pub use Rattle.lift_core.specs.Units
+pub use Rattle.lift_core.specs.Inside.Units
 pub use Rattle.lift_core.specs.Systems
+pub use Rattle.lift_core.specs.ToolSystems
 pub use Rattle.lift_core.specs.Stages
 pub use Rattle.lift_core.specs.Ends
 pub use Rattle.row_pool.specs.Rows
@@ -17,3 +18,5 @@ pub mod UnitVectors
 pub mod Lifted
 pub mod Published
 pub mod Found
+pub mod Numbered
+pub mod Sorting

@@ -2,9 +2,10 @@
 
 ghost use Rattle.std.specs.Prelude.{◌≡◌, ◌+◌, ◌<◌, ◌≤◌, ◌^◌, ℕ, List, [], ◌∷◌, length, map, slice_index_or, IsTrue, MatchOption, IfSome, IfOk, OnOk, All};
 ghost use Rattle.std.specs.List.{AllByRecursion, Contains, flat_map, insert};
-ghost use Rattle.lift_core.specs.Systems.{width};
+ghost use Rattle.lift_core.specs.ToolSystems.{width};
 ghost use Rattle.std.specs.List.Sorted.{IsStrictlySortedBy};
-ghost use Rattle.lift_core.specs.Stages.{lex_cmp, has_positive_last, has_negative_last};
+ghost use Rattle.int_vector.specs.Vectors.{lex_cmp};
+ghost use Rattle.lift_core.specs.Stages.{has_positive_last, has_negative_last};
 ghost use Rattle.row_pool.specs.Rows.{InRange};
 ghost use Rattle.stage_store.specs.Clashes.{HasLines, TellsOf};
 ghost use Rattle.stage_store.specs.Classes.{AreClasses, ids_of, rows_at};

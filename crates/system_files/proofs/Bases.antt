@@ -4,23 +4,22 @@ use Rattle.std.proofs.Common.{◌≡◌, ℕ, zero, suc, List, [], ◌∷◌, �
 use Rattle.std.specs.Prelude.{ℤ, pos, ◌*ℤ◌, None, IsTrue}
 use Rattle.std.specs.List.{AllZip, AllByRecursion, Contains}
 use Rattle.std.proofs.lemmas.List.Elements.{length_all_zip}
-use Rattle.int_vector.specs.Vectors.{◌⊑◌, dot, IsZero}
-use Rattle.mat_files.specs.Matrices.{Matrix}
+use Rattle.int_vector.specs.Vectors.{◌⊑◌, dot, IsZero, negated, leads_negative}
+use Rattle.mat_files.specs.Cells.{Matrix}
 use Rattle.mat_files.specs.declared.relations.Rel.TheVariants.{Equal}
-use Rattle.lift_core.specs.Systems.{HasSign, IsCapped}
-use Rattle.lift_core.specs.Minimal.{IsMinimal}
-use Rattle.lift_core.specs.Written.{Every, negated, leads_negative}
+use Rattle.lift_core.specs.Columns.{HasSign, IsCapped, Every}
+use Rattle.lift_core.specs.Systems.{IsMinimal}
 use Rattle.lift_core.proofs.Written.{one_leads_negative}
-use Rattle.lift_core.proofs.Cells.{length-rows_of}
-use Rattle.system_shape.specs.Shape.{UserSystem, Stands, user_rows, slacks, full_vector}
-use Rattle.system_shape.specs.Solutions.{IsUserSolution, IsWrittenForUser}
+use Rattle.lift_core.proofs.Cells.{length-cut_rows}
+use Rattle.system_shape.specs.Problem.{UserSystem, Stands, differences, full_vector, IsUserSolution, IsWrittenForUser}
+use Rattle.system_shape.specs.Shape.{user_rows}
 use Rattle.system_files.specs.Kernel.{rows_in, IsInKernel, IsKernelVector}
 use Rattle.system_files.specs.Basis.{IsGraverBasis}
 use Rattle.system_files.proofs.Kernels.{minimal_negated}
 
 -- the user's system of n free columns and these equations
 abbrev pub free_system : ℕ → ℕ → List (List ℤ) → UserSystem
-free_system n m rows = record { signs = replicate n (pos 2); caps = replicate n None; rows = user_rows rows (replicate m Equal) (replicate m (pos 0)); home = false }
+free_system n m rows = record { signs = replicate n (pos 2); caps = replicate n None; rows = user_rows rows (replicate m Equal) (replicate m (pos 0)); x0 = false }
 
 free_signs : (n : ℕ) (v : List ℤ) → length v ≡ n → AllZip HasSign (replicate n (pos 2)) v
 free_signs zero [] h = tt
@@ -50,7 +49,7 @@ rows_give m [] v h k = tt
 rows_give zero (r ∷ rows) v h k = absurd (omega arith)
 rows_give (suc m) (r ∷ rows) v h k = (k.0, rows_give m rows v (omega arith) k.1)
 
-no_slacks : (m : ℕ) (rows : List (List ℤ)) (c : ℤ) (v : List ℤ) → slacks (user_rows rows (replicate m Equal) (replicate m (pos 0))) c v ≡ []
+no_slacks : (m : ℕ) (rows : List (List ℤ)) (c : ℤ) (v : List ℤ) → differences (user_rows rows (replicate m Equal) (replicate m (pos 0))) c v ≡ []
 no_slacks m [] c v = refl
 no_slacks zero (r ∷ rows) c v = refl
 no_slacks (suc m) (r ∷ rows) c v = no_slacks m rows c v
@@ -65,7 +64,7 @@ module _ (n m : ℕ) (rows : List (List ℤ)) (count : length rows ≡ m) where
 
   user_from_kernel : (v : List ℤ) → IsKernelVector n rows v → IsUserSolution (free_system n m rows) (pos 0) v
   user_from_kernel v h = record {
-    home = refl;
+    x0 = refl;
     solves = record { signs = free_signs n v h.columns; caps = free_caps n v h.columns; rows = rows_hold m rows v count h.kernel };
   }
 
@@ -73,7 +72,7 @@ module _ (n m : ℕ) (rows : List (List ℤ)) (count : length rows ≡ m) where
   kernel_from_user c v h = record {
     columns = sym (length_all_zip HasSign (replicate n (pos 2)) v h.solves.signs) ∙ length-replicated n (pos 2);
     kernel = rows_give m rows v count
-        (subst (λ (d : ℤ). AllByRecursion (λ r. Stands r.relation (dot r.coefficients v) (r.right *ℤ d)) (user_rows rows (replicate m Equal) (replicate m (pos 0)))) h.home h.solves.rows);
+        (subst (λ (d : ℤ). AllByRecursion (λ r. Stands r.relation (dot r.coefficients v) (r.right *ℤ d)) (user_rows rows (replicate m Equal) (replicate m (pos 0)))) h.x0 h.solves.rows);
   }
 
   minimal_from_user : (v : List ℤ) → IsWrittenForUser (free_system n m rows) Every v → IsMinimal (IsKernelVector n rows) v
@@ -94,7 +93,7 @@ module _ (n m : ℕ) (rows : List (List ℤ)) (count : length rows ≡ m) where
       solution = user_from_kernel v h.member;
       nonzero = λ z. h.nonzero (subst IsZero (full_is (pos 0) v) z);
       least = λ d w s nonzero b. (
-        s.home,
+        s.x0,
         h.least w (kernel_from_user d w s) (λ z. nonzero (subst IsZero (sym (full_is d w)) z))
             (subst (λ (x : List ℤ). x ⊑ v) (full_is d w) (subst (λ (x : List ℤ). full_vector (free_system n m rows) d w ⊑ x) (full_is (pos 0) v) b)),
       );
@@ -116,7 +115,7 @@ not_true b e h = cc
 
 pub basis_is_half : (mat : Matrix) (set : List (List ℤ)) → IsGraverBasis mat set → IsHalf mat.cols (rows_in mat) set
 basis_is_half mat set h =
-    let count : length (rows_in mat) ≡ mat.rows = length-rows_of mat.rows mat.cols mat.cells in record {
+    let count : length (rows_in mat) ≡ mat.rows = length-cut_rows mat.rows mat.cols mat.cells in record {
       minimal = λ v c. minimal_from_user mat.cols mat.rows (rows_in mat) count v ((h.members v).0 c).0;
       positive = λ v c.
           let m = minimal_from_user mat.cols mat.rows (rows_in mat) count v ((h.members v).0 c).0 in

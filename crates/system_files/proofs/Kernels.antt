@@ -2,10 +2,10 @@
 use Rattle.std.proofs.Common.{◌≡◌, ℕ, List, [], ◌∷◌, length, ap, ap₂, sym, ◌∙◌, inl, inr, ◌⊎◌}
 use Rattle.std.specs.Prelude.{ℤ, pos, ◌+ℤ◌, ◌-ℤ◌, neg_ℤ}
 use Rattle.std.proofs.lemmas.Bool.{cases_eq}
-use Rattle.int_vector.specs.Vectors.{◌⊑◌, dot, add, subtract}
+use Rattle.int_vector.specs.Vectors.{◌⊑◌, dot, negated}
+use Rattle.int_vector.specs.Operations.{add, subtract}
 use Rattle.int_vector.proofs.Vectors.{dot-add, dot-subtract, length-below, difference_below}
-use Rattle.lift_core.specs.Minimal.{IsMinimal}
-use Rattle.lift_core.specs.Written.{negated}
+use Rattle.lift_core.specs.Systems.{IsMinimal}
 use Rattle.lift_core.proofs.Minimal.{IsClosed}
 use Rattle.lift_core.proofs.Systems.{test_each, test_same}
 use Rattle.system_files.specs.Kernel.{IsInKernel, IsKernelVector}

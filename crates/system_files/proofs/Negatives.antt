@@ -2,8 +2,7 @@
 use Rattle.std.proofs.Common.{◌≡◌, suc, List, [], ◌∷◌, length, refl, ap, ap₂, sym, ◌∙◌, arith}
 use Rattle.std.specs.Prelude.{ℤ, ◌*ℤ◌, ◌+ℤ◌, neg_ℤ}
 use Rattle.std.proofs.lemmas.Int.{ints}
-use Rattle.int_vector.specs.Vectors.{dot, IsWithin, ◌⊑◌, IsZero}
-use Rattle.lift_core.specs.Written.{negated}
+use Rattle.int_vector.specs.Vectors.{dot, IsWithin, ◌⊑◌, IsZero, negated}
 
 neg_neg : (x : ℤ) → neg_ℤ (neg_ℤ x) ≡ x
 neg_neg x = omega (arith, ints)

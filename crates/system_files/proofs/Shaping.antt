@@ -1,7 +1,8 @@
 -- Matrices that fit each other, or the fault of their shape.
 use Rattle.std.proofs.Common.{◌≡◌, Option, None, Some, Result, Ok, Err, IsErrAnd, refl, ap, sym, subst}
 use Rattle.lift_core.specs.declared.Tool.{Tool}
-use Rattle.system_shape.specs.Shape.{shape_fault, tool_system, shaped, unless, Shapes}
+use Rattle.system_shape.specs.Shape.{shape_fault, tool_system}
+use Rattle.system_shape.specs.Answers.{shaped, unless, Shapes}
 use Rattle.system_shape.specs.declared.files.Input.{Input}
 use Rattle.system_shape.specs.declared.faults.ShapeFault.{ShapeFault}
 use Rattle.system_shape.specs.declared.faults.ShapeEnd.{ShapeEnd}

@@ -1,9 +1,9 @@
 -- The Graver basis of a matrix.
 use Rattle.std.specs.Prelude.{List, ℤ, None}
-use Rattle.mat_files.specs.Matrices.{Matrix}
+use Rattle.mat_files.specs.Cells.{Matrix}
 use Rattle.lift_core.specs.declared.Tool.TheVariants.{Graver}
 use Rattle.system_shape.specs.Shape.{user_system}
-use Rattle.system_shape.specs.Solutions.{IsWantedGraverForUser}
+use Rattle.system_shape.specs.Problem.{IsWantedGraverForUser}
 use Rattle.system_shape.specs.declared.files.Input.{Input}
 
 -- the matrix alone: no other files

@@ -1,9 +1,7 @@
 -- What a file says, and the answers of reading it.
 use Rattle.std.specs.Prelude.{◌≡◌, ◌≤◌, ℕ, nat_lt, if◌then◌else◌, List, length, Option, None, Some, Result, Ok, Err}
 use Rattle.outside.specs.Causes.{Rose}
-use Rattle.mat_files.specs.Matrices.{Matrix, matrix_of}
-use Rattle.mat_files.specs.Relations.{Relations, relations_of}
-use Rattle.mat_files.specs.Caps.{CapTable, cap_table_of}
+use Rattle.mat_files.specs.Cells.{Matrix, matrix_of, Relations, relation_table_of, CapTable, cap_table_of}
 use Rattle.mat_files.specs.declared.faults.TextFault.{TextFault}
 use Rattle.system_files.specs.declared.faults.FileFault.{FileFault}
 use Rattle.system_files.specs.declared.faults.FileFault.TheVariants.{Missing, TooLong, Text}
@@ -42,7 +40,7 @@ optional_grid_in limit rows cols file = text_in limit file >>= spelled (matrix_o
 
 -- and the relations
 abbrev pub optional_relations_in : ℕ → ℕ → ℕ → Option (List ℕ) → Result (Option Relations) FileFault
-optional_relations_in limit rows cols file = text_in limit file >>= spelled (relations_of rows cols)
+optional_relations_in limit rows cols file = text_in limit file >>= spelled (relation_table_of rows cols)
 
 -- and the caps
 abbrev pub optional_caps_in : ℕ → ℕ → ℕ → Option (List ℕ) → Result (Option CapTable) FileFault

@@ -5,7 +5,8 @@ use Rattle.outside.specs.Files.{Files}
 use Rattle.outside.specs.Causes.{Rose}
 use Rattle.lift_core.specs.Systems.{ToolSystem}
 use Rattle.lift_core.specs.declared.Tool.{Tool}
-use Rattle.system_shape.specs.Shape.{IsWellFormed, user_system, tool_system, shape_fault}
+use Rattle.system_shape.specs.Laws.{IsWellFormed}
+use Rattle.system_shape.specs.Shape.{user_system, tool_system, shape_fault}
 use Rattle.system_shape.specs.declared.files.Input.{Input}
 use Rattle.system_shape.specs.declared.faults.ShapeFault.{ShapeFault}
 use Rattle.system_files.specs.Sources.{file_name}

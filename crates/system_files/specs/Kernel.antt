@@ -2,11 +2,11 @@
 use Rattle.std.specs.Prelude.{◌≡◌, ◌≤◌, ◌-◌, ℕ, List, [], ℤ, pos, length, take, Option, None, Some, slice_index_or}
 use Rattle.std.specs.List.{AllByRecursion}
 use Rattle.int_vector.specs.Vectors.{norm, dot}
-use Rattle.mat_files.specs.Matrices.{Matrix}
-use Rattle.lift_core.specs.Systems.{rows_of}
+use Rattle.mat_files.specs.Cells.{Matrix}
+use Rattle.lift_core.specs.Lists.{cut_rows}
 
 abbrev pub rows_in : Matrix → List (List ℤ)
-rows_in m = rows_of m.rows m.cols m.cells
+rows_in m = cut_rows m.rows m.cols m.cells
 
 -- the product with each row is 0
 abbrev pub IsInKernel : List (List ℤ) → List ℤ → Type 0

@@ -2,9 +2,7 @@
 ghost use Rattle.std.specs.Prelude.{◌≡◌, ◌≤◌, ◌^◌, ◌++◌, IfOk, IfSome, string_bytes};
 ghost use Rattle.std.specs.Option.{option_map};
 ghost use Rattle.std.specs.FinMap.{get};
-ghost use Rattle.mat_files.specs.Matrices.{matrix_of};
-ghost use Rattle.mat_files.specs.Relations.{relations_of};
-ghost use Rattle.mat_files.specs.Caps.{cap_table_of};
+ghost use Rattle.mat_files.specs.Cells.{matrix_of, relation_table_of, cap_table_of};
 ghost use Rattle.system_files.specs.Files.{text_in, spelled, optional_grid_in, grid_in, optional_relations_in, optional_caps_in, Reads, ReadsBy, HasFileCause};
 
 use crate::{FileEnd, FileFault};
@@ -68,7 +66,7 @@ fn parse_relations(
 ) -> Result<Option<RelGrid>, FileEnd>
     requires rows { max_rows ≤ 2 ^ 21 }
     requires cols { max_cols ≤ 64 }
-    ensures relations { Reads result (spelled (relations_of max_rows max_cols) (option_map (λ v. v.items) text.now)) }
+    ensures relations { Reads result (spelled (relation_table_of max_rows max_cols) (option_map (λ v. v.items) text.now)) }
     ensures calm { result ≡ Err FileEnd.Failed → ⊥ }
 {
     let Some(text) = text else {

@@ -1,6 +1,6 @@
 // The rows of a matrix.
 ghost use Rattle.std.specs.Prelude.{◌≡◌, ◌<◌, [], length, All, slice_index_or};
-ghost use Rattle.lift_core.specs.Systems.{InRange};
+ghost use Rattle.int_vector.specs.Range.{InRange};
 ghost use Rattle.system_files.specs.Kernel.{rows_in};
 
 use mat_files::Grid;

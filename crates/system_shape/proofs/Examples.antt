@@ -5,9 +5,11 @@ use Rattle.lift_core.specs.declared.Tool.TheVariants.{Graver, Hilbert, Zsolve}
 use Rattle.mat_files.specs.declared.relations.Rel.TheVariants.{Most, Least}
 use Rattle.system_shape.specs.declared.files.Input.{Input}
 use Rattle.system_shape.specs.declared.faults.ShapeFault.TheVariants.{SignNeeded, SignShape, BadSign, Free, RhsNotHere, CapShape}
-use Rattle.system_shape.specs.Shape.{shaped, shape_fault, user_system, full_vector}
+use Rattle.system_shape.specs.Answers.{shaped}
+use Rattle.system_shape.specs.Shape.{shape_fault, user_system}
+use Rattle.system_shape.specs.Problem.{full_vector}
 
--- x - y ≤ 2, -3 x + y ≤ 1 and x + y ≤ 1 for x, y ≥ 0: a slack for each row, then the column of the right sides
+-- x - y ≤ 2, -3 x + y ≤ 1 and x + y ≥ 1 for x, y ≥ 0: a slack for each row, then the column of x0
 polygon : Input
 polygon = record {
   mat = record { rows = 3; cols = 2; cells = pos 1 ∷ negsuc 0 ∷ negsuc 2 ∷ pos 1 ∷ pos 1 ∷ pos 1 ∷ [] };

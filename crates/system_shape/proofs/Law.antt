@@ -9,8 +9,11 @@ use Rattle.std.proofs.lemmas.List.Elements.{length_all_zip}
 use Rattle.std.proofs.Math.Seq.{take-length}
 use borrow.Author.Differences.{up, down, same_in, same_out, neg_is}
 use Rattle.int_vector.specs.Vectors.{dot}
-use Rattle.lift_core.specs.Systems.{HasSign, IsCapped, Solves}
-use Rattle.system_shape.specs.Shape.{Relation, at_most, equal_to, at_least, UserRow, UserSystem, SolvesUser, slack_count_of, slack_count, with_part, slack_parts, home_part, rows_with_slacks, home_signs, home_caps, system_of, slacks, home_entry, full_vector, IsWellFormed, IsHome}
+use Rattle.lift_core.specs.Columns.{HasSign, IsCapped}
+use Rattle.lift_core.specs.Systems.{Solves}
+use Rattle.system_shape.specs.Problem.{Relation, at_most, equal_to, at_least, UserRow, UserSystem, SolvesUser, differences, x0_entry, full_vector, IsX0}
+use Rattle.system_shape.specs.Slacks.{slack_count_of, slack_count, with_part, slack_parts, x0_part, rows_with_slacks, x0_signs, x0_caps, linear_system}
+use Rattle.system_shape.specs.Laws.{IsWellFormed}
 use Rattle.system_shape.proofs.Append.{dot-append, zip_append, zip_parts, Split, zip_split}
 use Rattle.system_shape.proofs.Slacks.{NotNegative, Holds, Stand, slacks_out, Given, slacks_in}
 
@@ -47,27 +50,27 @@ pub parts_count : (rows : List UserRow) → length (slack_parts rows) ≡ length
 parts_count [] = refl
 parts_count (r ∷ rows) = count_step r.relation (slack_count rows) (slack_parts rows) ∙ ap suc (parts_count rows)
 
-pub rows_count : (home : Bool) (rows : List UserRow) (parts : List (List ℤ)) → length parts ≡ length rows → length (rows_with_slacks home rows parts) ≡ length rows
-rows_count home [] parts h = refl
-rows_count home (r ∷ rows) [] h = absurd (omega arith)
-rows_count home (r ∷ rows) (p ∷ parts) h = ap suc (rows_count home rows parts (omega arith))
+pub rows_count : (x0 : Bool) (rows : List UserRow) (parts : List (List ℤ)) → length parts ≡ length rows → length (rows_with_slacks x0 rows parts) ≡ length rows
+rows_count x0 [] parts h = refl
+rows_count x0 (r ∷ rows) [] h = absurd (omega arith)
+rows_count x0 (r ∷ rows) (p ∷ parts) h = ap suc (rows_count x0 rows parts (omega arith))
 
--- ---- the homogenising column
+-- ---- x0
 neg-mul : (b c : ℤ) → (neg_ℤ b *ℤ c) +ℤ pos 0 ≡ neg_ℤ (b *ℤ c)
 neg-mul b c = same_in ((neg_ℤ b *ℤ c) +ℤ pos 0) (neg_ℤ (b *ℤ c)) (omega (arith, ints, ap (λ n. n * up c) (neg_is b).0, ap (λ n. n * down c) (neg_is b).0, ap (λ n. n * up c) (neg_is b).1, ap (λ n. n * down c) (neg_is b).1))
 
-home_dot : (home : Bool) (r : UserRow) (c : ℤ) → IsHome home c → dot (home_part home r) (home_entry home c) ≡ neg_ℤ (r.right *ℤ c)
-home_dot true r c h = neg-mul r.right c
-home_dot false r c h = rw h (same_in (pos 0) (neg_ℤ (r.right *ℤ pos 0)) (omega (arith, ints)))
+x0_dot : (x0 : Bool) (r : UserRow) (c : ℤ) → IsX0 x0 c → dot (x0_part x0 r) (x0_entry x0 c) ≡ neg_ℤ (r.right *ℤ c)
+x0_dot true r c h = neg-mul r.right c
+x0_dot false r c h = rw h (same_in (pos 0) (neg_ℤ (r.right *ℤ pos 0)) (omega (arith, ints)))
 
-module _ (home : Bool) (c : ℤ) (is_home : IsHome home c) (x s : List ℤ) where
-  full_dot : (r : UserRow) (p : List ℤ) → length r.coefficients ≡ length x → length p ≡ length s → dot (r.coefficients ++ (p ++ home_part home r)) (x ++ (s ++ home_entry home c)) ≡ dot r.coefficients x +ℤ (dot p s +ℤ neg_ℤ (r.right *ℤ c))
+module _ (x0 : Bool) (c : ℤ) (is_x0 : IsX0 x0 c) (x s : List ℤ) where
+  full_dot : (r : UserRow) (p : List ℤ) → length r.coefficients ≡ length x → length p ≡ length s → dot (r.coefficients ++ (p ++ x0_part x0 r)) (x ++ (s ++ x0_entry x0 c)) ≡ dot r.coefficients x +ℤ (dot p s +ℤ neg_ℤ (r.right *ℤ c))
   full_dot r p l m =
-      dot-append r.coefficients x (p ++ home_part home r) (s ++ home_entry home c) l
-      ∙ ap (λ t. dot r.coefficients x +ℤ t) (dot-append p s (home_part home r) (home_entry home c) m ∙ ap (λ t. dot p s +ℤ t) (home_dot home r c is_home))
+      dot-append r.coefficients x (p ++ x0_part x0 r) (s ++ x0_entry x0 c) l
+      ∙ ap (λ t. dot r.coefficients x +ℤ t) (dot-append p s (x0_part x0 r) (x0_entry x0 c) m ∙ ap (λ t. dot p s +ℤ t) (x0_dot x0 r c is_x0))
 
   rows_out : (rows : List UserRow) (parts : List (List ℤ)) → length parts ≡ length rows → AllByRecursion (λ r. length r.coefficients ≡ length x) rows → AllByRecursion (λ p. length p ≡ length s) parts
-      → AllByRecursion (λ w. dot w (x ++ (s ++ home_entry home c)) ≡ pos 0) (rows_with_slacks home rows parts) → AllZip (Holds c x s) rows parts
+      → AllByRecursion (λ w. dot w (x ++ (s ++ x0_entry x0 c)) ≡ pos 0) (rows_with_slacks x0 rows parts) → AllZip (Holds c x s) rows parts
   unfolding Holds
   rows_out [] [] n l m h = tt
   rows_out [] (p ∷ parts) n l m h = absurd (omega arith)
@@ -75,14 +78,14 @@ module _ (home : Bool) (c : ℤ) (is_home : IsHome home c) (x s : List ℤ) wher
   rows_out (r ∷ rows) (p ∷ parts) n l m h = (sym (full_dot r p l.0 m.0) ∙ h.0, rows_out rows parts (omega arith) l.1 m.1 h.1)
 
   rows_in : (rows : List UserRow) (parts : List (List ℤ)) → AllByRecursion (λ r. length r.coefficients ≡ length x) rows → AllByRecursion (λ p. length p ≡ length s) parts
-      → AllZip (Holds c x s) rows parts → AllByRecursion (λ w. dot w (x ++ (s ++ home_entry home c)) ≡ pos 0) (rows_with_slacks home rows parts)
+      → AllZip (Holds c x s) rows parts → AllByRecursion (λ w. dot w (x ++ (s ++ x0_entry x0 c)) ≡ pos 0) (rows_with_slacks x0 rows parts)
   unfolding Holds
   rows_in [] [] l m h = tt
   rows_in [] (p ∷ parts) l m h = absurd h
   rows_in (r ∷ rows) [] l m h = absurd h
   rows_in (r ∷ rows) (p ∷ parts) l m h = (full_dot r p l.0 m.0 ∙ h.0, rows_in rows parts l.1 m.1 h.1)
 
--- ---- signs and caps of the slacks and of the homogenising column
+-- ---- signs and caps of the slacks and of x0
 ones_in : (n : ℕ) (s : List ℤ) → length s ≡ n → NotNegative s → AllZip HasSign (replicate n (pos 1)) s
 ones_in zero [] l h = tt
 ones_in (suc n) (y ∷ s) l h = (record { at_least = λ e. h.0; at_most = λ e. absurd (omega (arith, same_out (pos 1) (negsuc 0) e)) }, ones_in n s (omega arith) h.1)
@@ -101,26 +104,26 @@ free_in (suc n) (y ∷ s) l = (tt, free_in n s (omega arith))
 free_in zero (y ∷ s) l = absurd (omega arith)
 free_in (suc n) [] l = absurd (omega arith)
 
-home_sign_in : (home : Bool) (c : ℤ) → IsHome home c → AllZip HasSign (home_signs home) (home_entry home c)
-home_sign_in true c h = (record { at_least = λ e. h.0; at_most = λ e. absurd (omega (arith, same_out (pos 1) (negsuc 0) e)) }, tt)
-home_sign_in false c h = tt
+x0_sign_in : (x0 : Bool) (c : ℤ) → IsX0 x0 c → AllZip HasSign (x0_signs x0) (x0_entry x0 c)
+x0_sign_in true c h = (record { at_least = λ e. h.0; at_most = λ e. absurd (omega (arith, same_out (pos 1) (negsuc 0) e)) }, tt)
+x0_sign_in false c h = tt
 
-small_home : (c : ℤ) → pos 0 ≤ℤ c → c ≤ℤ pos 1 → nat_abs c ≤ 1
-small_home c h k = omega (arith, ints)
+small_x0 : (c : ℤ) → pos 0 ≤ℤ c → c ≤ℤ pos 1 → nat_abs c ≤ 1
+small_x0 c h k = omega (arith, ints)
 
-home_small : (c : ℤ) → nat_abs c ≤ 1 → c ≤ℤ pos 1
-home_small c h = omega (arith, ints)
+x0_small : (c : ℤ) → nat_abs c ≤ 1 → c ≤ℤ pos 1
+x0_small c h = omega (arith, ints)
 
-home_cap_in : (home : Bool) (c : ℤ) → IsHome home c → AllZip IsCapped (home_caps home) (home_entry home c)
-home_cap_in true c h = (small_home c h.0 h.1, tt)
-home_cap_in false c h = tt
+x0_cap_in : (x0 : Bool) (c : ℤ) → IsX0 x0 c → AllZip IsCapped (x0_caps x0) (x0_entry x0 c)
+x0_cap_in true c h = (small_x0 c h.0 h.1, tt)
+x0_cap_in false c h = tt
 
-home_out : (home : Bool) (e : List ℤ) → AllZip HasSign (home_signs home) e → AllZip IsCapped (home_caps home) e → (c : ℤ) × IsHome home c × (e ≡ home_entry home c)
-home_out true [] h k = absurd h
-home_out true (c ∷ []) h k = (c, (h.0.at_least refl, home_small c k.0), refl)
-home_out true (c ∷ d ∷ e) h k = absurd h.1
-home_out false [] h k = (pos 0, refl, refl)
-home_out false (c ∷ e) h k = absurd h
+x0_out : (x0 : Bool) (e : List ℤ) → AllZip HasSign (x0_signs x0) e → AllZip IsCapped (x0_caps x0) e → (c : ℤ) × IsX0 x0 c × (e ≡ x0_entry x0 c)
+x0_out true [] h k = absurd h
+x0_out true (c ∷ []) h k = (c, (h.0.at_least refl, x0_small c k.0), refl)
+x0_out true (c ∷ d ∷ e) h k = absurd h.1
+x0_out false [] h k = (pos 0, refl, refl)
+x0_out false (c ∷ e) h k = absurd h
 
 coefficients_long : (rows : List UserRow) (n m : ℕ) → n ≡ m → AllByRecursion (λ r. length r.coefficients ≡ n) rows → AllByRecursion (λ r. length r.coefficients ≡ m) rows
 coefficients_long [] n m e h = tt
@@ -132,29 +135,29 @@ parts_long_as [] n m e h = tt
 parts_long_as (p ∷ parts) n m e h = (h.0 ∙ e, parts_long_as parts n m e h.1)
 
 module _ (U : UserSystem) (well : IsWellFormed U) where
-  all_rows : take (length U.rows) (system_of U).rows ≡ (system_of U).rows
-  all_rows = ap (λ n. take n (system_of U).rows) (sym (rows_count U.home U.rows (slack_parts U.rows) (parts_count U.rows))) ∙ take-length (system_of U).rows
+  all_rows : take (length U.rows) (linear_system U).rows ≡ (linear_system U).rows
+  all_rows = ap (λ n. take n (linear_system U).rows) (sym (rows_count U.x0 U.rows (slack_parts U.rows) (parts_count U.rows))) ∙ take-length (linear_system U).rows
 
-  pub full_solves : (c : ℤ) (x : List ℤ) → IsHome U.home c → SolvesUser U c x → Solves (system_of U) (length U.rows) (full_vector U c x)
-  full_solves c x home h =
+  pub full_solves : (c : ℤ) (x : List ℤ) → IsX0 U.x0 c → SolvesUser U c x → Solves (linear_system U) (length U.rows) (full_vector U c x)
+  full_solves c x x0 h =
       let n : ℕ = slack_count U.rows in
-      let g : Given c x U.rows (slack_parts U.rows) n (slacks U.rows c x) = slacks_in c x U.rows h.rows in
-      let s : List ℤ = slacks U.rows c x in
+      let g : Given c x U.rows (slack_parts U.rows) n (differences U.rows c x) = slacks_in c x U.rows h.rows in
+      let s : List ℤ = differences U.rows c x in
       let lx : length U.signs ≡ length x = length_all_zip HasSign U.signs x h.signs in
       record {
-        signs = zip_append HasSign U.signs (replicate n (pos 1) ++ home_signs U.home) x (s ++ home_entry U.home c) h.signs
-            (zip_append HasSign (replicate n (pos 1)) (home_signs U.home) s (home_entry U.home c) (ones_in n s g.long g.positive) (home_sign_in U.home c home));
-        caps = zip_append IsCapped U.caps (replicate n None ++ home_caps U.home) x (s ++ home_entry U.home c) h.caps
-            (zip_append IsCapped (replicate n None) (home_caps U.home) s (home_entry U.home c) (free_in n s g.long) (home_cap_in U.home c home));
+        signs = zip_append HasSign U.signs (replicate n (pos 1) ++ x0_signs U.x0) x (s ++ x0_entry U.x0 c) h.signs
+            (zip_append HasSign (replicate n (pos 1)) (x0_signs U.x0) s (x0_entry U.x0 c) (ones_in n s g.long g.positive) (x0_sign_in U.x0 c x0));
+        caps = zip_append IsCapped U.caps (replicate n None ++ x0_caps U.x0) x (s ++ x0_entry U.x0 c) h.caps
+            (zip_append IsCapped (replicate n None) (x0_caps U.x0) s (x0_entry U.x0 c) (free_in n s g.long) (x0_cap_in U.x0 c x0));
         rows = subst (AllByRecursion (λ w. dot w (full_vector U c x) ≡ pos 0)) (sym all_rows)
-            (rows_in U.home c home x s U.rows (slack_parts U.rows) (coefficients_long U.rows (length U.signs) (length x) lx well.rows) (parts_long_as (slack_parts U.rows) n (length s) (sym g.long) (parts_long U.rows)) g.hold);
+            (rows_in U.x0 c x0 x s U.rows (slack_parts U.rows) (coefficients_long U.rows (length U.signs) (length x) lx well.rows) (parts_long_as (slack_parts U.rows) n (length s) (sym g.long) (parts_long U.rows)) g.hold);
       }
 
-  pub is_full : (v : List ℤ) → Solves (system_of U) (length U.rows) v → (c : ℤ) × (x : List ℤ) × IsHome U.home c × SolvesUser U c x × (v ≡ full_vector U c x)
+  pub is_full : (v : List ℤ) → Solves (linear_system U) (length U.rows) v → (c : ℤ) × (x : List ℤ) × IsX0 U.x0 c × SolvesUser U c x × (v ≡ full_vector U c x)
   is_full v h =
       let n : ℕ = slack_count U.rows in
-      let a : Split HasSign U.signs (replicate n (pos 1) ++ home_signs U.home) v = zip_split HasSign U.signs (replicate n (pos 1) ++ home_signs U.home) v h.signs in
-      let b : Split HasSign (replicate n (pos 1)) (home_signs U.home) a.back = zip_split HasSign (replicate n (pos 1)) (home_signs U.home) a.back a.second in
+      let a : Split HasSign U.signs (replicate n (pos 1) ++ x0_signs U.x0) v = zip_split HasSign U.signs (replicate n (pos 1) ++ x0_signs U.x0) v h.signs in
+      let b : Split HasSign (replicate n (pos 1)) (x0_signs U.x0) a.back = zip_split HasSign (replicate n (pos 1)) (x0_signs U.x0) a.back a.second in
       let x : List ℤ = a.front in
       let s : List ℤ = b.front in
       let e : List ℤ = b.back in
@@ -162,18 +165,18 @@ module _ (U : UserSystem) (well : IsWellFormed U) where
       let ls : length (replicate n (pos 1)) ≡ length s = length_all_zip HasSign (replicate n (pos 1)) s b.first in
       let long : n ≡ length s = sym (length-replicate n (pos 1)) ∙ ls in
       let is : v ≡ x ++ (s ++ e) = a.is ∙ ap (λ w. x ++ w) b.is in
-      let caps : AllZip IsCapped (U.caps ++ (replicate n None ++ home_caps U.home)) (x ++ (s ++ e)) = subst (AllZip IsCapped (U.caps ++ (replicate n None ++ home_caps U.home))) is h.caps in
-      let p : AllZip IsCapped U.caps x × AllZip IsCapped (replicate n None ++ home_caps U.home) (s ++ e) = zip_parts IsCapped U.caps (replicate n None ++ home_caps U.home) x (s ++ e) (well.caps ∙ lx) caps in
-      let q : AllZip IsCapped (replicate n None) s × AllZip IsCapped (home_caps U.home) e = zip_parts IsCapped (replicate n None) (home_caps U.home) s e (length-replicate n None ∙ long) p.1 in
-      let o : (c : ℤ) × IsHome U.home c × (e ≡ home_entry U.home c) = home_out U.home e b.second q.1 in
+      let caps : AllZip IsCapped (U.caps ++ (replicate n None ++ x0_caps U.x0)) (x ++ (s ++ e)) = subst (AllZip IsCapped (U.caps ++ (replicate n None ++ x0_caps U.x0))) is h.caps in
+      let p : AllZip IsCapped U.caps x × AllZip IsCapped (replicate n None ++ x0_caps U.x0) (s ++ e) = zip_parts IsCapped U.caps (replicate n None ++ x0_caps U.x0) x (s ++ e) (well.caps ∙ lx) caps in
+      let q : AllZip IsCapped (replicate n None) s × AllZip IsCapped (x0_caps U.x0) e = zip_parts IsCapped (replicate n None) (x0_caps U.x0) s e (length-replicate n None ∙ long) p.1 in
+      let o : (c : ℤ) × IsX0 U.x0 c × (e ≡ x0_entry U.x0 c) = x0_out U.x0 e b.second q.1 in
       let c : ℤ = o.0 in
-      let whole : v ≡ x ++ (s ++ home_entry U.home c) = is ∙ ap (λ w. x ++ (s ++ w)) o.2 in
-      let rows : AllByRecursion (λ w. dot w (x ++ (s ++ home_entry U.home c)) ≡ pos 0) (system_of U).rows = subst₂ (λ (w : List ℤ) (l : List (List ℤ)). AllByRecursion (λ r. dot r w ≡ pos 0) l) whole all_rows h.rows in
-      let holds : AllZip (Holds c x s) U.rows (slack_parts U.rows) = rows_out U.home c o.1 x s U.rows (slack_parts U.rows) (parts_count U.rows) (coefficients_long U.rows (length U.signs) (length x) lx well.rows) (parts_long_as (slack_parts U.rows) n (length s) long (parts_long U.rows)) rows in
-      let r : AllByRecursion (Stand c x) U.rows × (s ≡ slacks U.rows c x) = slacks_out c x U.rows s (sym long) (ones_out n s b.first) holds in (
+      let whole : v ≡ x ++ (s ++ x0_entry U.x0 c) = is ∙ ap (λ w. x ++ (s ++ w)) o.2 in
+      let rows : AllByRecursion (λ w. dot w (x ++ (s ++ x0_entry U.x0 c)) ≡ pos 0) (linear_system U).rows = subst₂ (λ (w : List ℤ) (l : List (List ℤ)). AllByRecursion (λ r. dot r w ≡ pos 0) l) whole all_rows h.rows in
+      let holds : AllZip (Holds c x s) U.rows (slack_parts U.rows) = rows_out U.x0 c o.1 x s U.rows (slack_parts U.rows) (parts_count U.rows) (coefficients_long U.rows (length U.signs) (length x) lx well.rows) (parts_long_as (slack_parts U.rows) n (length s) long (parts_long U.rows)) rows in
+      let r : AllByRecursion (Stand c x) U.rows × (s ≡ differences U.rows c x) = slacks_out c x U.rows s (sym long) (ones_out n s b.first) holds in (
         c,
         x,
         o.1,
         record { signs = a.first; caps = p.0; rows = r.0 },
-        whole ∙ ap (λ w. x ++ (w ++ home_entry U.home c)) r.1,
+        whole ∙ ap (λ w. x ++ (w ++ x0_entry U.x0 c)) r.1,
       )

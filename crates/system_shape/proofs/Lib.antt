@@ -7,3 +7,4 @@ pub mod UserRows
 pub mod Building
 pub mod Examples
 pub mod Counted
+pub mod Answered

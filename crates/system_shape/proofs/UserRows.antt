@@ -5,8 +5,10 @@ use Rattle.std.specs.List.{AllByRecursion}
 use Rattle.std.proofs.Math.Seq.{drop-cons}
 use Rattle.std.proofs.Math.ListN.{drop_of_length-le}
 use Rattle.mat_files.specs.declared.relations.Rel.{Rel}
-use Rattle.system_shape.specs.Shape.{Relation, at_most, equal_to, at_least, UserRow, slack_count_of, slack_count, relation_of, user_rows}
-use Rattle.system_shape.specs.Cells.{slack_total, row_cells, cells_from}
+use Rattle.system_shape.specs.Problem.{Relation, at_most, equal_to, at_least, UserRow}
+use Rattle.system_shape.specs.Slacks.{slack_count_of, slack_count}
+use Rattle.system_shape.specs.Shape.{relation_of, user_rows}
+use Rattle.system_shape.specs.Inside.Cells.{slack_total, row_cells, cells_from}
 
 pub length-user_rows : (rows : List (List ℤ)) (relations : List Rel) (rights : List ℤ) (m : ℕ) → length rows ≡ m → length relations ≡ m → length rights ≡ m → length (user_rows rows relations rights) ≡ m
 length-user_rows [] relations rights m h k l = h
@@ -54,13 +56,13 @@ drop_next : {X : Type 0} (l : List X) (i j : ℕ) (d : X) → i < length l → j
 drop_next l i j d h e = drop-cons l i d h ∙ ap (λ n. get_or l i d ∷ drop n l) (sym e)
 
 -- a row with coefficients a, relation k and right side b, which is appended, moves from what is left to what is done
-pub row_done : (home : Bool) (rows : List (List ℤ)) (relations : List Rel) (rights : List ℤ) (i j before behind own : ℕ) (a : List ℤ) (k d : Rel) (b : ℤ) (done new whole : List ℤ) → j ≡ suc i → i < length relations
+pub row_done : (x0 : Bool) (rows : List (List ℤ)) (relations : List Rel) (rights : List ℤ) (i j before behind own : ℕ) (a : List ℤ) (k d : Rel) (b : ℤ) (done new whole : List ℤ) → j ≡ suc i → i < length relations
     → length rows ≡ length relations → length rights ≡ length relations
-    → done ++ cells_from home before (user_rows (drop i rows) (drop i relations) (drop i rights)) ≡ whole
+    → done ++ cells_from x0 before (user_rows (drop i rows) (drop i relations) (drop i rights)) ≡ whole
     → a ≡ get_or rows i [] → k ≡ get_or relations i d → b ≡ get_or rights i (pos 0) → behind ≡ slack_total (drop j relations) → own ≡ slack_count_of (relation_of k) before
-    → new ≡ done ++ row_cells home a before (relation_of k) behind b
-    → new ++ cells_from home own (user_rows (drop j rows) (drop j relations) (drop j rights)) ≡ whole
-row_done home rows relations rights i j before behind own a k d b done new whole next h la lb is_done is_a is_k is_b is_behind is_own is_new =
+    → new ≡ done ++ row_cells x0 a before (relation_of k) behind b
+    → new ++ cells_from x0 own (user_rows (drop j rows) (drop j relations) (drop j rights)) ≡ whole
+row_done x0 rows relations rights i j before behind own a k d b done new whole next h la lb is_done is_a is_k is_b is_behind is_own is_new =
     let rest : List UserRow = user_rows (drop j rows) (drop j relations) (drop j rights) in
     let as_row : List ℤ → Rel → ℤ → List UserRow = λ p q r. record { coefficients = p; relation = relation_of q; right = r } ∷ rest in
     let first : drop i rows ≡ a ∷ drop j rows = drop_next rows i j [] (omega arith) next ∙ ap (λ p. p ∷ drop j rows) (sym is_a) in
@@ -74,13 +76,13 @@ row_done home rows relations rights i j before behind own a k d b done new whole
     ∙ sym
     (slack_count-user_rows (drop j rows) (drop j relations) (drop j rights)
     (omega (arith, length-drop j rows, length-drop j relations)) (omega (arith, length-drop j rights, length-drop j relations))) in
-    ap₂ (λ t o. t ++ cells_from home o rest) (is_new ∙ ap (λ c. done ++ row_cells home a before (relation_of k) c b) count) is_own
-    ∙ append_assoc done (row_cells home a before (relation_of k) (slack_count rest) b) (cells_from home (slack_count_of (relation_of k) before) rest)
-    ∙ ap (λ us. done ++ cells_from home before us) (sym cut)
+    ap₂ (λ t o. t ++ cells_from x0 o rest) (is_new ∙ ap (λ c. done ++ row_cells x0 a before (relation_of k) c b) count) is_own
+    ∙ append_assoc done (row_cells x0 a before (relation_of k) (slack_count rest) b) (cells_from x0 (slack_count_of (relation_of k) before) rest)
+    ∙ ap (λ us. done ++ cells_from x0 before us) (sym cut)
     ∙ is_done
 
 -- where no row is left, all is done
-pub all_done : (home : Bool) (before i : ℕ) (rows : List (List ℤ)) (relations : List Rel) (rights : List ℤ) (done whole : List ℤ) → length rows ≤ i
-    → done ++ cells_from home before (user_rows (drop i rows) relations rights) ≡ whole → done ≡ whole
-all_done home before i rows relations rights done whole h e =
-    sym (append-nil done) ∙ ap (λ ps. done ++ cells_from home before (user_rows ps relations rights)) (sym (drop_of_length-le rows h)) ∙ e
+pub all_done : (x0 : Bool) (before i : ℕ) (rows : List (List ℤ)) (relations : List Rel) (rights : List ℤ) (done whole : List ℤ) → length rows ≤ i
+    → done ++ cells_from x0 before (user_rows (drop i rows) relations rights) ≡ whole → done ≡ whole
+all_done x0 before i rows relations rights done whole h e =
+    sym (append-nil done) ∙ ap (λ ps. done ++ cells_from x0 before (user_rows ps relations rights)) (sym (drop_of_length-le rows h)) ∙ e

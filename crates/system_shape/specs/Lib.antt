@@ -1,6 +1,9 @@
+pub mod Problem
+pub mod Slacks
 pub mod Shape
-pub mod Solutions
+pub mod Answers
 pub mod Laws
 pub mod Accepted
 pub mod Cells
 pub mod Tables
+pub mod Inside

@@ -1,21 +1,22 @@
 //! The signs and caps of the columns.
 
 ghost use Rattle.std.specs.Prelude.{◌≡◌, ◌++◌, ◌≤◌, ◌<◌, ℤ, ℕ, pos, None, length, replicate, IfOk, All};
-ghost use Rattle.lift_core.specs.Systems.{IsSign};
-ghost use Rattle.system_shape.specs.Shape.{signs_of, given_caps, has_home, home_signs, home_caps};
+ghost use Rattle.lift_core.specs.ToolSystems.{IsSign};
+ghost use Rattle.system_shape.specs.Shape.{given_signs, given_caps, has_x0};
+ghost use Rattle.system_shape.specs.Slacks.{x0_signs, x0_caps};
 
 use lift_core::Tool;
 use mat_files::{CapGrid, Grid};
 use std::alloc::{AllocError, Global};
 
-/// Whether the tool has a homogenising column.
-pub(crate) fn has_home(tool: Tool) -> bool
-    ensures { result ≡ has_home tool }
+/// Whether the tool has x0, the homogenising column.
+pub(crate) fn has_x0(tool: Tool) -> bool
+    ensures { result ≡ has_x0 tool }
 {
     matches!(tool, Tool::Zsolve)
 }
 
-// the sign that the entry is
+// The sign that the entry is.
 fn sign_of(entry: i64) -> i8
     requires { IsSign entry }
     ensures { result ≡ entry }
@@ -27,7 +28,7 @@ fn sign_of(entry: i64) -> i8
     }
 }
 
-// the signs that stand in the file
+// The signs that stand in the file.
 fn file_signs(alloc: Global, entries: &[i64]) -> Result<Vec<i8>, AllocError>
     requires { All IsSign entries.now }
     ensures { IfOk result (λ v. v.items ≡ entries.now) }
@@ -39,10 +40,10 @@ fn file_signs(alloc: Global, entries: &[i64]) -> Result<Vec<i8>, AllocError>
     Ok(signs)
 }
 
-// the signs of the user's n columns
+// The signs of the user's n columns.
 fn user_signs(alloc: Global, tool: Tool, n: u32, sign: &Option<Grid>) -> Result<Vec<i8>, AllocError>
-    requires { All IsSign (signs_of tool n sign.now) }
-    ensures { IfOk result (λ v. v.items ≡ signs_of tool n sign.now) }
+    requires { All IsSign (given_signs tool n sign.now) }
+    ensures { IfOk result (λ v. v.items ≡ given_signs tool n sign.now) }
 {
     match sign {
         Some(file) => file_signs(alloc, &file.cells),
@@ -54,7 +55,7 @@ fn user_signs(alloc: Global, tool: Tool, n: u32, sign: &Option<Grid>) -> Result<
     }
 }
 
-/// The signs of the user's n columns, of so many slack columns, and of the homogenising column.
+/// The signs of the user's n columns, of so many slack columns, and of x0.
 pub(crate) fn column_signs(
     alloc: Global,
     tool: Tool,
@@ -62,20 +63,22 @@ pub(crate) fn column_signs(
     sign: &Option<Grid>,
     slacks: usize,
 ) -> Result<Vec<i8>, AllocError>
-    requires { All IsSign (signs_of tool n sign.now) }
-    ensures { IfOk result (λ v. v.items ≡ signs_of tool n sign.now ++ (replicate slacks (pos 1) ++ home_signs (has_home tool))) }
+    requires { All IsSign (given_signs tool n sign.now) }
+    ensures { IfOk result
+        (λ v. v.items ≡ given_signs tool n sign.now
+        ++ (replicate slacks (pos 1) ++ x0_signs (has_x0 tool))) }
 {
     let mut signs = user_signs(alloc, tool, n, sign)?;
     for _slack in 0..slacks {
         signs.push(1)?;
     }
-    if has_home(tool) {
+    if has_x0(tool) {
         signs.push(1)?;
     }
     Ok(signs)
 }
 
-// the caps of the user's n columns
+// The caps of the user's n columns.
 fn user_caps(alloc: Global, n: u32, cap: &Option<CapGrid>) -> Result<Vec<Option<u64>>, AllocError>
     ensures { IfOk result (λ v. v.items ≡ given_caps n cap.now) }
 {
@@ -85,7 +88,7 @@ fn user_caps(alloc: Global, n: u32, cap: &Option<CapGrid>) -> Result<Vec<Option<
     }
 }
 
-/// The caps of the user's n columns, of so many slack columns, which have none, and of the homogenising column.
+/// The caps of the user's n columns, of so many slack columns, which have none, and of x0.
 pub(crate) fn column_caps(
     alloc: Global,
     tool: Tool,
@@ -93,13 +96,14 @@ pub(crate) fn column_caps(
     cap: &Option<CapGrid>,
     slacks: usize,
 ) -> Result<Vec<Option<u64>>, AllocError>
-    ensures { IfOk result (λ v. v.items ≡ given_caps n cap.now ++ (replicate slacks None ++ home_caps (has_home tool))) }
+    ensures { IfOk result
+        (λ v. v.items ≡ given_caps n cap.now ++ (replicate slacks None ++ x0_caps (has_x0 tool))) }
 {
     let mut caps = user_caps(alloc, n, cap)?;
     for _slack in 0..slacks {
         caps.push(None)?;
     }
-    if has_home(tool) {
+    if has_x0(tool) {
         caps.push(Some(1))?;
     }
     Ok(caps)

@@ -2,9 +2,11 @@
 
 ghost use Rattle.std.specs.Prelude.{◌≡◌, ◌++◌, ◌+◌, ◌*◌, ◌≤◌, ◌<◌, [], pos, length, replicate, drop, slice_index_or, IfOk, All};
 ghost use Rattle.mat_files.specs.declared.relations.Rel.TheVariants.{Most};
-ghost use Rattle.lift_core.specs.Systems.{InRange, rows_of};
-ghost use Rattle.system_shape.specs.Shape.{relations_of, rights_of, relation_of, slack_count_of, user_rows};
-ghost use Rattle.system_shape.specs.Cells.{slack_total, slack_part, home_cells, row_cells, cells_from};
+ghost use Rattle.int_vector.specs.Range.{InRange};
+ghost use Rattle.lift_core.specs.Lists.{cut_rows};
+ghost use Rattle.system_shape.specs.Shape.{given_relations, given_rights, relation_of, user_rows};
+ghost use Rattle.system_shape.specs.Slacks.{slack_count_of};
+ghost use Rattle.system_shape.specs.Inside.Cells.{slack_total, slack_part, x0_cells, row_cells, cells_from};
 
 use mat_files::{Grid, Rel, RelGrid};
 use std::alloc::{AllocError, Global};
@@ -15,7 +17,7 @@ pub(crate) fn relations(
     m: u32,
     rel: &Option<RelGrid>,
 ) -> Result<Vec<Rel>, AllocError>
-    ensures { IfOk result (λ v. v.items ≡ relations_of m rel.now) }
+    ensures { IfOk result (λ v. v.items ≡ given_relations m rel.now) }
 {
     match rel {
         Some(file) => Vec::from_slice(alloc, &file.cells),
@@ -25,7 +27,7 @@ pub(crate) fn relations(
 
 /// The right sides of m rows.
 pub(crate) fn right_sides(alloc: Global, m: u32, rhs: &Option<Grid>) -> Result<Vec<i64>, AllocError>
-    ensures { IfOk result (λ v. v.items ≡ rights_of m rhs.now) }
+    ensures { IfOk result (λ v. v.items ≡ given_rights m rhs.now) }
 {
     match rhs {
         Some(file) => Vec::from_slice(alloc, &file.cells),
@@ -33,7 +35,7 @@ pub(crate) fn right_sides(alloc: Global, m: u32, rhs: &Option<Grid>) -> Result<V
     }
 }
 
-// the number of slack columns with that of a row, where there are so many without it
+// The number of slack columns with that of a row, where there are so many without it.
 fn with_slack(relation: Rel, slacks: usize) -> usize
     requires { slacks < 64 }
     ensures { result ≡ slack_count_of (relation_of relation) slacks }
@@ -56,7 +58,7 @@ pub(crate) fn slack_columns(relations: &[Rel]) -> usize
     slacks
 }
 
-// appends so many zeros
+// Appends so many zeros.
 fn push_zeros(cells: &mut Vec<i64>, count: usize) -> Result<(), AllocError>
     ensures { IfOk result (λ _. cells.new.items ≡ cells.old.items ++ replicate count (pos 0)) }
 {
@@ -66,7 +68,7 @@ fn push_zeros(cells: &mut Vec<i64>, count: usize) -> Result<(), AllocError>
     Ok(())
 }
 
-// a row's place among the slack columns: how many of other rows stand before and behind its own, if it has one
+// A row's place among the slack columns: how many of other rows stand before and behind its own, if it has one.
 #[derive(Clone, Copy)]
 struct Slacks {
     before: usize,
@@ -74,7 +76,7 @@ struct Slacks {
     behind: usize,
 }
 
-// the place of a row, counted from 0, where so many slack columns stand before its own
+// The place of a row, counted from 0, where so many slack columns stand before its own.
 fn place_of(relations: &[Rel], row: usize, before: usize) -> Slacks
     requires inside { row < length relations.now }
     requires few { length relations.now ≤ 64 }
@@ -89,9 +91,11 @@ fn place_of(relations: &[Rel], row: usize, before: usize) -> Slacks
     }
 }
 
-// appends a row's entries in the slack columns
+// Appends a row's entries in the slack columns.
 fn push_slacks(cells: &mut Vec<i64>, slacks: Slacks) -> Result<(), AllocError>
-    ensures { IfOk result (λ _. cells.new.items ≡ cells.old.items ++ slack_part slacks.before (relation_of slacks.relation) slacks.behind) }
+    ensures { IfOk result
+        (λ _. cells.new.items ≡ cells.old.items
+        ++ slack_part slacks.before (relation_of slacks.relation) slacks.behind) }
 {
     push_zeros(cells, slacks.before)?;
     match slacks.relation {
@@ -102,37 +106,41 @@ fn push_slacks(cells: &mut Vec<i64>, slacks: Slacks) -> Result<(), AllocError>
     push_zeros(cells, slacks.behind)
 }
 
-// appends a row's entry in the homogenising column, where there is one
-fn push_home(cells: &mut Vec<i64>, home: bool, right: i64) -> Result<(), AllocError>
+// Appends a row's entry in the column of x0, where there is one.
+fn push_x0(cells: &mut Vec<i64>, x0: bool, right: i64) -> Result<(), AllocError>
     requires { InRange right }
-    ensures { IfOk result (λ _. cells.new.items ≡ cells.old.items ++ home_cells home right) }
+    ensures { IfOk result (λ _. cells.new.items ≡ cells.old.items ++ x0_cells x0 right) }
 {
-    if home {
+    if x0 {
         cells.push(-right)?;
     }
     Ok(())
 }
 
-// appends a row's entries
+// Appends a row's entries.
 fn push_row(
     cells: &mut Vec<i64>,
     coefficients: &[i64],
     slacks: Slacks,
-    home: bool,
+    x0: bool,
     right: i64,
 ) -> Result<(), AllocError>
     requires { InRange right }
-    ensures { IfOk result (λ _. cells.new.items ≡ cells.old.items ++ row_cells home coefficients.now slacks.before (relation_of slacks.relation) slacks.behind right) }
+    ensures { IfOk result
+        (λ _. cells.new.items ≡ cells.old.items
+        ++ row_cells x0 coefficients.now slacks.before
+        (relation_of slacks.relation) slacks.behind right) }
 {
     cells.extend_from_slice(coefficients)?;
     push_slacks(cells, slacks)?;
-    push_home(cells, home, right)
+    push_x0(cells, x0, right)
 }
 
-// the coefficients of a row, counted from 0
+// The coefficients of a row, counted from 0.
 fn coefficients(mat: &Grid, row: usize) -> &[i64]
     requires { row < mat.now.rows }
-    ensures { result.now ≡ slice_index_or (rows_of mat.now.rows mat.now.cols mat.now.cells) row [] }
+    ensures { result.now
+        ≡ slice_index_or (cut_rows mat.now.rows mat.now.cols mat.now.cells) row [] }
 {
     let width = mat.cols as usize;
     let start = row * width;
@@ -145,25 +153,22 @@ pub(crate) fn equations(
     mat: &Grid,
     relations: &[Rel],
     rights: &[i64],
-    home: bool,
+    x0: bool,
 ) -> Result<Vec<i64>, AllocError>
     requires rows { mat.now.rows ≤ 64 }
     requires relations { length relations.now ≡ mat.now.rows }
     requires rights { length rights.now ≡ mat.now.rows }
     requires range { All InRange rights.now }
-    ensures { IfOk result (λ v. v.items ≡ cells_from home 0 (user_rows (rows_of mat.now.rows mat.now.cols mat.now.cells) relations.now rights.now)) }
+    ensures { IfOk result
+        (λ v. v.items
+        ≡ cells_from x0 0
+        (user_rows (cut_rows mat.now.rows mat.now.cols mat.now.cells) relations.now rights.now)) }
 {
     let mut entries = Vec::new(alloc);
     let mut before = 0;
     for row in 0..relations.len() {
         let place = place_of(relations, row, before);
-        push_row(
-            &mut entries,
-            coefficients(mat, row),
-            place,
-            home,
-            rights[row],
-        )?;
+        push_row(&mut entries, coefficients(mat, row), place, x0, rights[row])?;
         before = with_slack(place.relation, before);
     }
     Ok(entries)

@@ -1,14 +1,14 @@
 //! The system of equations that the user's matrices stand for.
 //!
 //! A user's system has inequalities and right sides. The system that is solved has equations with right side 0, over
-//! the user's columns, a slack column for each inequality, and for `zsolve` a homogenising column.
+//! the user's columns, a slack column for each inequality, and for `zsolve` the homogenising column x0.
 #![tactic(auto)]
 
-mod accepting;
 mod columns;
 mod equations;
 mod faults;
 mod files;
+mod first_fault;
 pub mod laws;
 mod shaping;
 mod table_matrix;

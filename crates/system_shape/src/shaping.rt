@@ -1,18 +1,21 @@
 //! From the user's matrices to the system.
 
 ghost use Rattle.std.specs.Prelude.{◌≡◌, ◌≤◌, length, IfOk};
-ghost use Rattle.system_shape.specs.Shape.{IsWellFormed, has_home, system_of, user_system, tool_system, shaped, Shapes};
-ghost use Rattle.system_shape.specs.Cells.{cells_from};
-ghost use Rattle.system_shape.specs.Accepted.{AreFitting};
+ghost use Rattle.system_shape.specs.Laws.{IsWellFormed};
+ghost use Rattle.system_shape.specs.Shape.{has_x0, user_system, tool_system};
+ghost use Rattle.system_shape.specs.Slacks.{linear_system};
+ghost use Rattle.system_shape.specs.Answers.{shaped, Shapes};
+ghost use Rattle.system_shape.specs.Inside.Cells.{cells_from};
+ghost use Rattle.system_shape.specs.Inside.Accepted.{AreFitting};
 
-use crate::accepting::shape_fault;
-use crate::columns::{column_caps, column_signs, has_home};
+use crate::columns::{column_caps, column_signs, has_x0};
 use crate::equations::{equations, relations, right_sides, slack_columns};
+use crate::first_fault::shape_fault;
 use crate::{Input, ShapeEnd};
 use lift_core::{System, Tool};
 use std::alloc::{AllocError, Global};
 
-// the system of these signs, caps and entries
+// The system of these signs, caps and entries.
 fn assemble(
     tool: Tool,
     input: &Input,
@@ -21,9 +24,10 @@ fn assemble(
     entries: Vec<i64>,
 ) -> System
     requires fitting { AreFitting tool input.now }
-    requires signs { signs.items ≡ (system_of (user_system tool input.now)).signs }
-    requires caps { caps.items ≡ (system_of (user_system tool input.now)).caps }
-    requires entries { entries.items ≡ cells_from (has_home tool) 0 (user_system tool input.now).rows }
+    requires signs { signs.items ≡ (linear_system (user_system tool input.now)).signs }
+    requires caps { caps.items ≡ (linear_system (user_system tool input.now)).caps }
+    requires entries { entries.items
+        ≡ cells_from (has_x0 tool) 0 (user_system tool input.now).rows }
     ensures { result ≡ tool_system tool input.now }
 {
     let mat = &input.mat;
@@ -31,7 +35,7 @@ fn assemble(
     System::build(tool, mat.cols, width, entries, signs, caps)
 }
 
-// the system of files without a fault
+// The system of files without a fault.
 fn accepted_system(alloc: Global, tool: Tool, input: &Input) -> Result<System, AllocError>
     requires { AreFitting tool input.now }
     ensures { IfOk result (λ system. system ≡ tool_system tool input.now) }
@@ -42,16 +46,16 @@ fn accepted_system(alloc: Global, tool: Tool, input: &Input) -> Result<System, A
     let slacks = slack_columns(&relations);
     let signs = column_signs(alloc, tool, mat.cols, &input.sign, slacks)?;
     let caps = column_caps(alloc, tool, mat.cols, &input.cap, slacks)?;
-    let entries = equations(alloc, mat, &relations, &rights, has_home(tool))?;
+    let entries = equations(alloc, mat, &relations, &rights, has_x0(tool))?;
     Ok(assemble(tool, input, signs, caps, entries))
 }
 
 /// The system that the matrices stand for, for a tool.
 ///
 /// Its columns are those of the matrix, then one slack for each row that is an inequality, in row order, then for
-/// `zsolve` alone the homogenising column. With s the row's slack and c the homogenising column, a row `a x <= b`
-/// becomes `a x + s - b c = 0`, a row `a x >= b` becomes `a x - s - b c = 0`, and a row `a x = b` becomes
-/// `a x - b c = 0`; the other tools have no right sides. Slacks and c are at least 0, and c is at most 1.
+/// `zsolve` alone the homogenising column x0. With s the row's slack, a row `a x <= b`
+/// becomes `a x + s - b x0 = 0`, a row `a x >= b` becomes `a x - s - b x0 = 0`, and a row `a x = b` becomes
+/// `a x - b x0 = 0`; the other tools have no right sides. Slacks and x0 are at least 0, and x0 is at most 1.
 /// A column of the matrix has the cap that the file of caps gives it, and a slack has none.
 ///
 /// # Errors
@@ -65,7 +69,8 @@ pub fn shape(alloc: Global, tool: Tool, input: &Input) -> Result<System, ShapeEn
 
     // Where there is a system, the laws between it and the user's own hold.
     ensures well_formed { IfOk result (λ _. IsWellFormed (user_system tool input.now)) }
-    ensures columns { IfOk result (λ _. input.now.mat.cols ≡ length (user_system tool input.now).signs) }
+    ensures columns { IfOk result
+        (λ _. input.now.mat.cols ≡ length (user_system tool input.now).signs) }
 {
     match shape_fault(tool, input) {
         Some(fault) => Err(ShapeEnd::Bad(fault)),

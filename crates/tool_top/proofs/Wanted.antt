@@ -5,12 +5,15 @@ use Rattle.lift_core.specs.declared.Tool.{Tool}
 use Rattle.lift_core.specs.declared.Tool.TheVariants.{Graver, Hilbert, Zsolve}
 use Rattle.solution_files.specs.declared.selection.Kind.{Kind}
 use Rattle.solution_files.specs.declared.selection.Kind.TheVariants.{All}
-use Rattle.lift_core.specs.Written.{Every, Homogeneous, Inhomogeneous, IsWrittenOf, IsWanted, IsWantedGraver, negated, leads_negative}
-use Rattle.lift_core.specs.Written as core
-use Rattle.system_shape.specs.Shape.{IsWellFormed, user_system, tool_system}
+use Rattle.lift_core.specs.Columns.{Every, Homogeneous, Inhomogeneous}
+use Rattle.lift_core.specs.Inside.Written.{IsWrittenOf, IsWanted, IsWantedGraver}
+use Rattle.int_vector.specs.Vectors.{negated, leads_negative, norm}
+use Rattle.lift_core.specs.Columns as core
+use Rattle.system_shape.specs.Laws.{IsWellFormed, HasKind}
+use Rattle.system_shape.specs.Shape.{user_system, tool_system}
 use Rattle.system_shape.specs.declared.files.Input.{Input}
-use Rattle.system_shape.specs.Shape.{system_of, UserSystem}
-use Rattle.system_shape.specs.Solutions.{IsWrittenForUser, IsWantedForUser, IsWantedGraverForUser, HasKind}
+use Rattle.system_shape.specs.Slacks.{linear_system}
+use Rattle.system_shape.specs.Problem.{UserSystem, IsWrittenForUser, IsWantedForUser, IsWantedGraverForUser}
 use Rattle.system_shape.proofs.Solutions.{written as written_for_user, same_list, same_pairs}
 use Rattle.solution_files.specs.Laws.{AreAllSolutions}
 use Rattle.solution_files.proofs.TextLemmas.{text_of-rows}
@@ -19,15 +22,15 @@ use Rattle.tool_top.specs.Inside.Writing.{IsWantedBy, AreFilesOf}
 use Rattle.std.specs.Prelude.{ℤ, IsTrue}
 use Rattle.std.specs.List.{flat_map, sum_by}
 use Rattle.std.proofs.lemmas.List.Sums.{sum_by-cons}
-use Rattle.int_vector.specs.Vectors.{norm}
-use Rattle.mat_files.specs.Matrices.{Matrix}
-use Rattle.mat_files.specs.Texts.{text_of}
+use Rattle.mat_files.specs.Cells.{Matrix}
+use Rattle.mat_files.specs.Printed.{text_of}
 use Rattle.solution_files.specs.Outputs.{grid_of, text_of_rows, kind_of, IsSelected, IsSelection}
 use Rattle.tool_top.specs.declared.ends.Part.{Part}
 use Rattle.lift_core.specs.Ends.{RunEnds, finished as run_finished}
 use Rattle.system_files.specs.Inputs.{IsShaped}
+use Rattle.tool_words.specs.declared.jobs.Job.{Job}
 use Rattle.tool_top.specs.Outputs.{OutputFile, file_of, AreOutputsOf, AreOutputs}
-use Rattle.tool_top.specs.Expected.{default_limits, FinishesWith}
+use Rattle.tool_top.specs.Expected.{limits_of, FinishesWith}
 
 norm-append : (u v : List ℤ) → norm (u ++ v) ≡ norm u + norm v
 norm-append [] v = omega arith
@@ -57,14 +60,14 @@ selected_output S finished kind part grid every all h =
     (h.rows, selected_wanted S.tool S finished h.rows kind refl every all h.selected, selected_file part S.n h.rows grid h.grid_is (ap text_of h.grid_is ∙ text_of-rows S.n h.rows h.lengths))
 
 -- ---- what is wanted of the linear system is what the user's own system asks for
-wanted_for_user : (U : UserSystem) (n : ℕ) (kind : core.Kind) (rows : List (List ℤ)) → IsWellFormed U → n ≡ length U.signs → HasKind U.home kind → IsWanted (system_of U) n kind rows → IsWantedForUser U kind rows
-wanted_for_user U n kind rows well e k h = (same_list (IsWrittenOf (system_of U) n kind) (IsWrittenForUser U kind) rows (λ x. written_for_user U well n kind x e k)).0 h
+wanted_for_user : (U : UserSystem) (n : ℕ) (kind : core.Kind) (rows : List (List ℤ)) → IsWellFormed U → n ≡ length U.signs → HasKind U.x0 kind → IsWanted (linear_system U) n kind rows → IsWantedForUser U kind rows
+wanted_for_user U n kind rows well e k h = (same_list (IsWrittenOf (linear_system U) n kind) (IsWrittenForUser U kind) rows (λ x. written_for_user U well n kind x e k)).0 h
 
-graver_for_user : (U : UserSystem) (n : ℕ) (rows : List (List ℤ)) → IsWellFormed U → n ≡ length U.signs → HasKind U.home Every → IsWantedGraver (system_of U) n rows → IsWantedGraverForUser U rows
+graver_for_user : (U : UserSystem) (n : ℕ) (rows : List (List ℤ)) → IsWellFormed U → n ≡ length U.signs → HasKind U.x0 Every → IsWantedGraver (linear_system U) n rows → IsWantedGraverForUser U rows
 graver_for_user U n rows well e k h =
-    (same_list (λ x. IsWrittenOf (system_of U) n Every x × (IsWrittenOf (system_of U) n Every (negated x) → IsTrue (leads_negative x) → ⊥))
+    (same_list (λ x. IsWrittenOf (linear_system U) n Every x × (IsWrittenOf (linear_system U) n Every (negated x) → IsTrue (leads_negative x) → ⊥))
     (λ x. IsWrittenForUser U Every x × (IsWrittenForUser U Every (negated x) → IsTrue (leads_negative x) → ⊥)) rows
-    (λ x. same_pairs (IsWrittenOf (system_of U) n Every) (IsWrittenForUser U Every) x (negated x) (IsTrue (leads_negative x) → ⊥) (written_for_user U well n Every x e k) (written_for_user U well n Every (negated x) e k))).0
+    (λ x. same_pairs (IsWrittenOf (linear_system U) n Every) (IsWrittenForUser U Every) x (negated x) (IsTrue (leads_negative x) → ⊥) (written_for_user U well n Every x e k) (written_for_user U well n Every (negated x) e k))).0
     h
 
 module _ (tool : Tool) (input : Input) (formed : IsWellFormed (user_system tool input)) (as_many : input.mat.cols ≡ length (user_system tool input).signs) where
@@ -82,13 +85,13 @@ module _ (tool : Tool) (input : Input) (formed : IsWellFormed (user_system tool 
   ] formed as_many
 
 -- what is selected from the finish of the files' system is what the plan asks for
-pub wanted_outputs : (tool : Tool) (project : List ℕ) (input : Input) (S : ToolSystem) → IsShaped tool input S → (T : ToolSystem) (outputs : List OutputFile) → T ≡ S
-    → AreFilesOf T.tool T outputs → AreOutputs (record { project = project; tool = tool; input = input }) outputs
-wanted_outputs tool project input S shaped T outputs same files =
+pub wanted_outputs : (tool : Tool) (job : Job) (input : Input) (S : ToolSystem) → IsShaped tool input S → (T : ToolSystem) (outputs : List OutputFile) → T ≡ S
+    → AreFilesOf T.tool T outputs → AreOutputs (record { job = job; tool = tool; input = input }) outputs
+wanted_outputs tool job input S shaped T outputs same files =
     let e : T ≡ tool_system tool input = same ∙ shaped.is in
     user_files tool input shaped.formed shaped.columns outputs (subst (λ (U : ToolSystem). AreFilesOf U.tool U outputs) e files)
 
-pub finishes_with : (tool : Tool) (project : List ℕ) (input : Input) (S : ToolSystem) → IsShaped tool input S → (rows : List (List ℤ)) (pairs : ℕ)
-    → RunEnds S.equations default_limits (run_finished rows pairs) → FinishesWith (record { project = project; tool = tool; input = input }) pairs
-finishes_with tool project input S shaped rows pairs ends =
-    (rows, subst (λ (U : ToolSystem). RunEnds U.equations default_limits (run_finished rows pairs)) shaped.is ends)
+pub finishes_with : (tool : Tool) (job : Job) (input : Input) (S : ToolSystem) → IsShaped tool input S → (rows : List (List ℤ)) (pairs : ℕ)
+    → RunEnds S.equations (limits_of job) (run_finished rows pairs) → FinishesWith (record { job = job; tool = tool; input = input }) pairs
+finishes_with tool job input S shaped rows pairs ends =
+    (rows, subst (λ (U : ToolSystem). RunEnds U.equations (limits_of job) (run_finished rows pairs)) shaped.is ends)

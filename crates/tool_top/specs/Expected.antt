@@ -1,20 +1,21 @@
 -- Which end comes.
-use Rattle.std.specs.Prelude.{◌≡◌, ◌^◌, ℕ, ℤ, List, Result, Ok, Err}
+use Rattle.std.specs.Prelude.{◌≡◌, ℕ, ℤ, List, Result, Ok, Err}
 use Rattle.lift_core.specs.Ends.{Limits, RunEnds, norm_overflow, row_overflow, pairs_spent, rows_spent, finished}
 use Rattle.lift_core.specs.Ends.{End as LiftEnd}
 use Rattle.lift_run.specs.declared.ends.Place.TheVariants.{Row, Norm}
+use Rattle.tool_words.specs.declared.jobs.Job.{Job}
 use Rattle.tool_top.specs.declared.ends.End.{End}
 use Rattle.tool_top.specs.declared.ends.End.TheVariants.{Done, Overflow, Pairs, Rows, Outside, Memory}
 use Rattle.tool_top.specs.Plan.{Plan, system_of_plan}
 use Rattle.tool_top.specs.Outputs.{OutputFile, AreOutputs, rows_in, norms_in}
 
--- at most 2^40 pairs and 2^20 listed rows
-abbrev pub default_limits : Limits
-default_limits = record { pairs = 2 ^ 40; rows = 2 ^ 20 }
+-- the pair budget and the row budget of the words
+abbrev pub limits_of : Job → Limits
+limits_of job = record { pairs = job.pairs; rows = job.rows }
 
 -- the run of the plan's system within the limits comes to this
 abbrev pub RunComesTo : Plan → LiftEnd → Type 0
-RunComesTo p end = RunEnds (system_of_plan p).equations default_limits end
+RunComesTo p end = RunEnds (system_of_plan p).equations (limits_of p.job) end
 
 -- the run is finished with so many used pairs
 abbrev pub FinishesWith : Plan → ℕ → Type 0

@@ -10,8 +10,8 @@ use Rattle.tool_top.specs.declared.ends.Part.TheVariants.{Gra, Hil, Zhom, Zinhom
 use Rattle.tool_top.specs.declared.ends.End.{End}
 use Rattle.tool_top.specs.declared.ends.End.TheVariants.{Done, Outside, Memory}
 use Rattle.tool_top.specs.Names.{file_name}
-use Rattle.tool_top.specs.Plan.{Plan}
-use Rattle.tool_top.specs.Outputs.{OutputFile, AreOutputs, HasWritten, written_all, rows_in}
+use Rattle.tool_top.specs.Plan.{Plan, project_of}
+use Rattle.tool_top.specs.Outputs.{OutputFile, AreOutputs, HasWritten, written_all, rows_in, norms_in}
 use Rattle.tool_top.specs.Expected.{FinishesWith}
 use Rattle.tool_top.specs.Summary.{summary_of}
 
@@ -28,9 +28,9 @@ pub record IsUntouched (t : Traces) : Type 0 where
   pub out : t.out_after ≡ t.out_before
 
 -- all output files hold their texts, and the summary was put
-pub record IsDone (plan : Plan) (t : Traces) (solutions pairs : ℕ) : Type 0 where
+pub record IsDone (plan : Plan) (t : Traces) (solutions pairs norms : ℕ) : Type 0 where
   pub files : HasWritten plan t.files_before t.files_after
-  pub out : t.out_after ≡ append_known t.out_before (summary_of solutions pairs)
+  pub out : t.out_after ≡ append_known t.out_before (summary_of plan.job solutions pairs norms)
 
 -- one of the files is as before, empty or has a prefix of its text, those before it are whole, and those after it are as before
 abbrev pub IsCutAt : List ℕ → List OutputFile → Part → Option Files → Option Files → Type 0
@@ -45,7 +45,7 @@ pub record IsCutInFile (plan : Plan) (t : Traces) (part : Part) : Type 0 where
   pub pairs_are : FinishesWith plan pairs
   pub outputs : List OutputFile
   pub wanted : AreOutputs plan outputs
-  pub files : IsCutAt plan.project outputs part (Some t.files_before) t.files_after
+  pub files : IsCutAt (project_of plan.job) outputs part (Some t.files_before) t.files_after
   pub out : t.out_after ≡ t.out_before
 
 -- the run was finished, all output files are whole, and putting its summary was refused
@@ -54,8 +54,8 @@ pub record IsCutInSummary (plan : Plan) (t : Traces) : Type 0 where
   pub pairs_are : FinishesWith plan pairs
   pub outputs : List OutputFile
   pub wanted : AreOutputs plan outputs
-  pub files : t.files_after ≡ Some (written_all plan.project outputs t.files_before)
-  pub out : MayPut (summary_of (rows_in outputs) pairs) t.out_before t.out_after
+  pub files : t.files_after ≡ Some (written_all (project_of plan.job) outputs t.files_before)
+  pub out : MayPut (summary_of plan.job (rows_in outputs) pairs (norms_in outputs)) t.out_before t.out_after
 
 -- what a fault of this part leaves: of an output file, a prefix of its text may stand there; of standard output, a prefix of the summary; of an input file, nothing has changed
 abbrev pub LeavesCut : Result Plan End → Traces → Part → Type 0
@@ -68,7 +68,7 @@ LeavesCut plan t part = IsUntouched t
 
 -- what stands at an end; want of memory leaves what the fault of some part leaves
 abbrev pub Leaves : Result Plan End → Traces → End → Type 0
-Leaves plan t (Done solutions pairs norms) = IsOkAnd plan (λ p. IsDone p t solutions pairs)
+Leaves plan t (Done solutions pairs norms) = IsOkAnd plan (λ p. IsDone p t solutions pairs norms)
 Leaves plan t (Outside part) = LeavesCut plan t part
 Leaves plan t Memory = (part : Part) × LeavesCut plan t part
 Leaves plan t end = IsUntouched t

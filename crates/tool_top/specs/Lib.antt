@@ -11,9 +11,12 @@ pub use Rattle.outside.specs.Causes
 pub use Rattle.outside.specs.Pieces
 pub use Rattle.mat_files.specs.Texts
 pub use Rattle.lift_core.specs.Systems
-pub use Rattle.lift_core.specs.Written
+pub use Rattle.lift_core.specs.ToolSystems
+pub use Rattle.lift_core.specs.Inside.Written
+pub use Rattle.system_shape.specs.Problem
+pub use Rattle.system_shape.specs.Slacks
 pub use Rattle.system_shape.specs.Shape
-pub use Rattle.system_shape.specs.Solutions
+pub use Rattle.tool_words.specs.Jobs
 pub use Rattle.system_files.specs.Inputs
 pub use Rattle.system_files.specs.Files as SystemFiles
 pub use Rattle.solution_files.specs.Outputs as SolutionOutputs

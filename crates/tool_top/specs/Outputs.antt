@@ -3,16 +3,15 @@ use Rattle.std.specs.Prelude.{◌≡◌, ℕ, ℤ, List, ◌∷◌, [], length, 
 use Rattle.std.specs.List.{sum_by}
 use Rattle.outside.specs.Files.{Files}
 use Rattle.int_vector.specs.Vectors.{norm}
-use Rattle.lift_core.specs.Written.{Every, Homogeneous, Inhomogeneous}
+use Rattle.lift_core.specs.Columns.{Every, Homogeneous, Inhomogeneous}
 use Rattle.lift_core.specs.declared.Tool.{Tool}
 use Rattle.lift_core.specs.declared.Tool.TheVariants.{Graver, Hilbert, Zsolve}
-use Rattle.system_shape.specs.Shape.{UserSystem}
-use Rattle.system_shape.specs.Solutions.{IsWantedForUser, IsWantedGraverForUser}
+use Rattle.system_shape.specs.Problem.{UserSystem, IsWantedForUser, IsWantedGraverForUser}
 use Rattle.solution_files.specs.Outputs.{written, text_of_rows}
 use Rattle.tool_top.specs.declared.ends.Part.{Part}
 use Rattle.tool_top.specs.declared.ends.Part.TheVariants.{Gra, Hil, Zhom, Zinhom}
 use Rattle.tool_top.specs.Names.{file_name}
-use Rattle.tool_top.specs.Plan.{Plan, user_of}
+use Rattle.tool_top.specs.Plan.{Plan, project_of, user_of}
 
 -- an output file: which, its text, how many rows it has, and the sum of their norms
 pub record OutputFile : Type 0 where
@@ -50,7 +49,7 @@ written_all project (f ∷ fs) files =
 abbrev pub HasWritten : Plan → Files → Option Files → Type 0
 HasWritten p before after =
     (outputs : List OutputFile) × AreOutputs p outputs
-    × (after ≡ Some (written_all p.project outputs before))
+    × (after ≡ Some (written_all (project_of p.job) outputs before))
 
 -- the numbers of the summary: all rows, and the sum of their norms
 abbrev pub rows_in : List OutputFile → ℕ

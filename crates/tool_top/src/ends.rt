@@ -12,6 +12,7 @@ use outside::PutEnd;
 use std::alloc::AllocError;
 use system_files::{FileFault, InputFault, InputStop, Source};
 use system_shape::ShapeFault;
+use tool_words::WordEnd;
 
 /// A file of a project, by its ending, or standard output.
 #[derive(Clone, Copy, Debug, PartialEq, Eq)]
@@ -122,6 +123,19 @@ fn answer_of(fault: InputFault) -> End
         InputFault::File(source, FileFault::Text(fault)) => End::Text(part_of(source), fault),
         InputFault::Refused(source) => End::Refused(part_of(source)),
         InputFault::Shape(fault) => End::Shape(fault),
+    }
+}
+
+impl From<WordEnd> for End {
+    ghost use Rattle.tool_top.specs.Inside.Ends.{end_of_words};
+
+    ghost from_gives = { λ words end. end ≡ end_of_words words };
+
+    fn from(refused: WordEnd) -> End {
+        match refused {
+            WordEnd::Usage => End::Usage,
+            WordEnd::Memory => End::Memory,
+        }
     }
 }
 

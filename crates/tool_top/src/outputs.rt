@@ -4,7 +4,7 @@ ghost use Rattle.std.specs.Prelude.{◌≡◌, ◌≤◌, ◌<◌, ◌^◌, ◌�
 ghost use Rattle.std.specs.Option.{option_map};
 ghost use Rattle.int_vector.specs.Vectors.{norm};
 ghost use Rattle.outside.specs.Causes.{Rose};
-ghost use Rattle.lift_core.specs.Systems.{width};
+ghost use Rattle.lift_core.specs.ToolSystems.{width};
 ghost use Rattle.solution_files.specs.Laws.{AreAllSolutions};
 ghost use Rattle.solution_files.specs.Outputs.{kind_of};
 ghost use Rattle.tool_top.specs.Outputs.{file_of, rows_in, norms_in, written_all};

@@ -1,3 +1,4 @@
+-- Each entry that is written is the sum of the two entries at its place, and those before it are so already.
 use Rattle.std.proofs.Common.{◌≡◌, ◌∙◌, arith, get_or, pos, rules, SFits, w64, to_z-of_z}
 use Rattle.std.specs.Prelude.{◌+ℤ◌}
 use Rattle.std.proofs.lemmas.List.{length-set}

@@ -1,6 +1,6 @@
 -- What is written so far is the sum so far.
 use Rattle.std.proofs.Common.{◌≡◌, length, take}
-use Rattle.int_vector.specs.Vectors.{add}
+use Rattle.int_vector.specs.Operations.{add}
 use Rattle.int_vector.proofs.add_into.Given as goal
 
 abbrev pub invariant-loop-i : goal.invariant-loop-i

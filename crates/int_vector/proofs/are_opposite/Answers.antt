@@ -1,3 +1,4 @@
+-- The product of two entries has room in 128 bits.
 use Rattle.std.proofs.Common.{rules, SFits, w64, to_z-of_z}
 use Rattle.std.specs.Prelude.{◌*ℤ◌}
 use mir.Syntax.{w128}

@@ -1,6 +1,6 @@
 -- What is left has the same leading entry.
 use Rattle.std.proofs.Common.{drop, ◌≡◌}
-use Rattle.int_vector.specs.Vectors.{leading_entry}
+use Rattle.int_vector.specs.Operations.{leading_entry}
 use Rattle.int_vector.proofs.lead.Given as goal
 
 abbrev pub invariant-loop-entry : goal.invariant-loop-entry

@@ -1,5 +1,5 @@
 -- The ends of lower layers as ends of a command.
-use Rattle.std.specs.Prelude.{◌≡◌, ◌≤◌, ℕ, Result, Ok, Err}
+use Rattle.std.specs.Prelude.{◌≡◌, ◌≤◌, ℕ, Option, None, Some, Result, Ok, Err}
 use Rattle.outside.specs.Causes.{Rose}
 use Rattle.outside.specs.declared.ends.PutEnd.{PutEnd}
 use Rattle.outside.specs.declared.ends.PutEnd.TheVariants.{Failed, Memory as PutMemory}
@@ -7,9 +7,12 @@ use Rattle.lift_run.specs.declared.ends.RunEnd.{RunEnd}
 use Rattle.lift_run.specs.declared.ends.RunEnd.TheVariants.{Overflow as RunOverflow, Pairs as RunPairs, Rows as RunRows, Memory as RunMemory}
 use Rattle.system_files.specs.declared.faults.InputStop.{InputStop}
 use Rattle.system_files.specs.declared.faults.InputStop.TheVariants as stop
+use Rattle.tool_words.specs.declared.jobs.Job.{Job}
+use Rattle.tool_words.specs.declared.jobs.WordEnd.{WordEnd}
+use Rattle.tool_words.specs.declared.jobs.WordEnd.TheVariants.{Usage as NoForm, Memory as NoMemory}
 use Rattle.tool_top.specs.declared.ends.Part.{Part}
 use Rattle.tool_top.specs.declared.ends.End.{End}
-use Rattle.tool_top.specs.declared.ends.End.TheVariants.{Done, Overflow, Pairs, Rows, Outside, Memory}
+use Rattle.tool_top.specs.declared.ends.End.TheVariants.{Done, Usage, Overflow, Pairs, Rows, Outside, Memory}
 use Rattle.tool_top.specs.declared.ends.Totals.{Totals}
 use Rattle.tool_top.specs.Plan.{Plan, part_of, answer_of}
 use Rattle.tool_top.specs.Expected.{ComesTo}
@@ -30,6 +33,17 @@ end_of_run (RunOverflow stage place) = Overflow stage place
 end_of_run (RunPairs stage norm needed) = Pairs stage norm needed
 end_of_run (RunRows stage norm count) = Rows stage norm count
 end_of_run RunMemory = Memory
+
+-- the words are refused
+abbrev pub end_of_words : WordEnd → End
+end_of_words NoForm = Usage
+end_of_words NoMemory = Memory
+
+-- a job was read as the words have it, or they are refused
+abbrev pub Asks : Option Job → Result Job WordEnd → Type 0
+Asks expected (Ok job) = expected ≡ Some job
+Asks expected (Err NoForm) = expected ≡ None
+Asks expected (Err NoMemory) = Unit {0}
 
 -- the end of a run that came to these numbers, or was stopped
 abbrev pub end_of : Result Totals End → End

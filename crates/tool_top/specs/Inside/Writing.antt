@@ -3,11 +3,13 @@ use Rattle.std.specs.Prelude.{◌≡◌, ℕ, ℤ, List, [], ◌∷◌, map, Opt
 use Rattle.std.specs.Io.KnownBytes.{append_known}
 use Rattle.outside.specs.Files.{Files}
 use Rattle.int_vector.specs.Vectors.{norm}
-use Rattle.mat_files.specs.Texts.{text_of}
+use Rattle.mat_files.specs.Printed.{text_of}
 use Rattle.lift_core.specs.Systems.{ToolSystem}
 use Rattle.lift_core.specs.declared.Tool.{Tool}
 use Rattle.lift_core.specs.declared.Tool.TheVariants.{Graver, Hilbert, Zsolve}
-use Rattle.lift_core.specs.Written.{Kind, Every, Homogeneous, Inhomogeneous, IsWanted, IsWantedGraver}
+use Rattle.lift_core.specs.Columns.{Kind, Every, Homogeneous, Inhomogeneous}
+use Rattle.lift_core.specs.Inside.Written.{IsWanted, IsWantedGraver}
+use Rattle.tool_words.specs.declared.jobs.Job.{Job}
 use Rattle.tool_top.specs.declared.ends.Part.{Part}
 use Rattle.tool_top.specs.declared.ends.Part.TheVariants.{Gra, Hil, Zhom, Zinhom, Out}
 use Rattle.tool_top.specs.declared.ends.End.{End}
@@ -52,19 +54,19 @@ CutsTo project outputs old new Memory = (part : Part) × IsCutAt project outputs
 CutsTo project outputs old new end = ⊥
 
 -- the summary of outputs that are written was put
-pub record IsTold (outputs : List OutputFile) (used : ℕ) (old new : Option (List ℕ)) (totals : Totals) : Type 0 where
+pub record IsTold (job : Job) (outputs : List OutputFile) (used : ℕ) (old new : Option (List ℕ)) (totals : Totals) : Type 0 where
   pub solutions_are : totals.solutions ≡ rows_in outputs
   pub pairs_are : totals.pairs ≡ used
   pub norms_are : totals.norm_total ≡ norms_in outputs
-  pub out : new ≡ append_known old (summary_of totals.solutions totals.pairs)
+  pub out : new ≡ append_known old (summary_of job totals.solutions totals.pairs totals.norm_total)
 
 -- a prefix of it was put, and the end says why
-abbrev pub IsCutShort : List OutputFile → ℕ → Option (List ℕ) → Option (List ℕ) → End → Type 0
-IsCutShort outputs used old new (Outside part) =
-    (part ≡ Out) × MayPut (summary_of (rows_in outputs) used) old new
-IsCutShort outputs used old new Memory = MayPut (summary_of (rows_in outputs) used) old new
-IsCutShort outputs used old new end = ⊥
+abbrev pub IsCutShort : Job → List OutputFile → ℕ → Option (List ℕ) → Option (List ℕ) → End → Type 0
+IsCutShort job outputs used old new (Outside part) =
+    (part ≡ Out) × MayPut (summary_of job (rows_in outputs) used (norms_in outputs)) old new
+IsCutShort job outputs used old new Memory = MayPut (summary_of job (rows_in outputs) used (norms_in outputs)) old new
+IsCutShort job outputs used old new end = ⊥
 
-abbrev pub TellsOf : List OutputFile → ℕ → Option (List ℕ) → Option (List ℕ) → Result Totals End → Type 0
-TellsOf outputs used old new (Ok totals) = IsTold outputs used old new totals
-TellsOf outputs used old new (Err end) = IsCutShort outputs used old new end
+abbrev pub TellsOf : Job → List OutputFile → ℕ → Option (List ℕ) → Option (List ℕ) → Result Totals End → Type 0
+TellsOf job outputs used old new (Ok totals) = IsTold job outputs used old new totals
+TellsOf job outputs used old new (Err end) = IsCutShort job outputs used old new end

@@ -1,3 +1,4 @@
+-- Each clause is a lemma of `Walks`, `Ends` or `OneWalk`.
 use Rattle.lift_core.proofs.Walks.{walk_ends, run_walks}
 use Rattle.lift_core.proofs.Ends.{one_end, one_run, finished_rows, finished_run}
 use Rattle.lift_core.proofs.OneWalk.{one_walk}

@@ -1,3 +1,4 @@
+-- Each clause is a lemma of `Growth` or `Lifting`.
 use Rattle.std.proofs.Common.{le_of_eq, sym}
 use Rattle.lift_core.specs.Stages.{last}
 use Rattle.lift_core.proofs.Growth.{stage_below_same}

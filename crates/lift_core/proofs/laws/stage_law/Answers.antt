@@ -1,3 +1,4 @@
+-- Each clause is a lemma of `Places` or `Walks`.
 use Rattle.std.proofs.Common.{◌+◌}
 use Rattle.lift_core.proofs.Places.{solutions_are, nothing_listed, solutions_wait}
 use Rattle.lift_core.proofs.Walks.{first_used}

@@ -1,3 +1,4 @@
+-- Each clause is a lemma of `Terms` or `Descent`.
 use Rattle.lift_core.proofs.Descent.{smaller_sum}
 use Rattle.lift_core.proofs.Terms.{decomposed, stage_decomposed, one_term}
 use Rattle.lift_core.specs.Systems.{Solves}

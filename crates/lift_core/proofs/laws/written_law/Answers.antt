@@ -1,6 +1,8 @@
+-- An ascending list with exactly the members of a set is unique.
 use Rattle.std.specs.Prelude.{IsTrue}
-use Rattle.lift_core.specs.Stages.{lex_cmp}
-use Rattle.lift_core.specs.Written.{Every, IsWrittenOf, negated, leads_negative}
+use Rattle.int_vector.specs.Vectors.{lex_cmp, negated, leads_negative}
+use Rattle.lift_core.specs.Columns.{Every}
+use Rattle.lift_core.specs.Inside.Written.{IsWrittenOf}
 use Rattle.lift_core.proofs.Lists.{one_list}
 use Rattle.lift_core.proofs.Orders.{lex_cmp_total}
 use Rattle.lift_core.proofs.Written.{one_leads_negative}

@@ -1,8 +1,9 @@
+-- The reader and the grammar agree, since they agree on each cell.
 use Rattle.std.proofs.Common.{arith}
 use Rattle.int_vector.specs.Range.{IsCap}
-use Rattle.mat_files.specs.Caps.{cap_value, cap_at}
-use Rattle.mat_files.proofs.GrammarLemmas.{found_from, only_from}
-use Rattle.mat_files.proofs.CellLemmas.{reads_caps}
+use Rattle.mat_files.specs.Cells.{cap_value, cap_at}
+use Rattle.mat_files.proofs.SpelledTables.{found_from, only_from}
+use Rattle.mat_files.proofs.CellReaders.{reads_caps}
 use Rattle.mat_files.proofs.caps.read_cap.Goals as goal
 
 pub returns-clause-found : goal.returns-clause-found

@@ -1,7 +1,7 @@
 use Rattle.int_vector.specs.Range.{IsCap}
-use Rattle.mat_files.specs.Caps.{cap_value, cap_at}
-use Rattle.mat_files.proofs.GrammarLemmas.{text-table_of}
-use Rattle.mat_files.proofs.CellLemmas.{reads_caps}
+use Rattle.mat_files.specs.Cells.{cap_value, cap_at}
+use Rattle.mat_files.proofs.SpelledTables.{text-table_of}
+use Rattle.mat_files.proofs.CellReaders.{reads_caps}
 use Rattle.mat_files.proofs.caps.read_caps.Goals as goal
 
 pub invariant_of-result : goal.invariant_of-result

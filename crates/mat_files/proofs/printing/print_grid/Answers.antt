@@ -1,4 +1,4 @@
-use Rattle.mat_files.proofs.ReadBackLemmas.{printed-spells, printed-reads}
+use Rattle.mat_files.proofs.ReadBack.{printed-spells, printed-reads}
 use Rattle.mat_files.proofs.printing.print_grid.Goals as goal
 
 pub returns-clause-spelled : goal.returns-clause-spelled

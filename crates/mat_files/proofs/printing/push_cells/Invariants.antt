@@ -1,3 +1,4 @@
+-- The cells so far and those that are left make the line.
 use Rattle.std.proofs.Common.{◌≡◌, ◌++◌, length, take}
 use Rattle.mat_files.specs.Texts.{joined_cells}
 use Rattle.mat_files.proofs.printing.push_cells.Given as goal

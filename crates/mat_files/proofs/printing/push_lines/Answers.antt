@@ -1,6 +1,7 @@
+-- The lines so far and those of the rows that are left make the whole.
 use Rattle.std.proofs.Common.{◌≡◌, ◌+◌, ◌++◌, length, take, drop, ◌∙◌, arith}
 use Rattle.mat_files.specs.Texts.{line_of}
-use Rattle.mat_files.proofs.TextLemmas.{lines_more, left_more}
+use Rattle.mat_files.proofs.RowByRow.{lines_more, left_more}
 use Rattle.mat_files.proofs.printing.push_lines.Goals as goal
 
 pub loop-row-preserved : goal.loop-row-preserved

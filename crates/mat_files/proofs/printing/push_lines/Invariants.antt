@@ -1,5 +1,5 @@
 use Rattle.std.proofs.Common.{◌≡◌, ◌++◌, ◌-◌, ◌*◌, length}
-use Rattle.mat_files.specs.Texts.{lines_of}
+use Rattle.mat_files.specs.Printed.{lines_of}
 use Rattle.mat_files.proofs.printing.push_lines.Given as goal
 
 abbrev pub invariant-loop-row : goal.invariant-loop-row

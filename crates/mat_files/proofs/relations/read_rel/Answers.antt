@@ -1,8 +1,9 @@
+-- The reader and the grammar agree, since they agree on each cell.
 use Rattle.std.proofs.Common.{arith}
 use Rattle.std.specs.Prelude.{⊤}
-use Rattle.mat_files.specs.Relations.{relation_value, relation_at}
-use Rattle.mat_files.proofs.GrammarLemmas.{found_from, only_from}
-use Rattle.mat_files.proofs.CellLemmas.{reads_relations}
+use Rattle.mat_files.specs.Cells.{relation_value, relation_at}
+use Rattle.mat_files.proofs.SpelledTables.{found_from, only_from}
+use Rattle.mat_files.proofs.CellReaders.{reads_relations}
 use Rattle.mat_files.proofs.relations.read_rel.Goals as goal
 
 pub returns-clause-found : goal.returns-clause-found

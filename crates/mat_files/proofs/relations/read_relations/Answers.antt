@@ -1,7 +1,7 @@
-use Rattle.mat_files.specs.Relations.{relation_value, relation_at}
+use Rattle.mat_files.specs.Cells.{relation_value, relation_at}
 use Rattle.std.specs.Prelude.{⊤}
-use Rattle.mat_files.proofs.GrammarLemmas.{text-table_of}
-use Rattle.mat_files.proofs.CellLemmas.{reads_relations}
+use Rattle.mat_files.proofs.SpelledTables.{text-table_of}
+use Rattle.mat_files.proofs.CellReaders.{reads_relations}
 use Rattle.mat_files.proofs.relations.read_relations.Goals as goal
 
 pub invariant_of-result : goal.invariant_of-result

@@ -1,7 +1,8 @@
+-- The cells that were read, and what reading those that are left gives, make what the whole gives.
 use Rattle.std.proofs.Common.{arith, rules}
 use Rattle.mat_files.specs.Words.{Word}
 use Rattle.mat_files.specs.Tables.{cells_at}
-use Rattle.mat_files.proofs.TableLemmas.{front_more}
+use Rattle.mat_files.proofs.CellByCell.{front_more}
 use Rattle.mat_files.proofs.tables.read_cells.Goals as goal
 
 pub loop-place-preserved : goal.loop-place-preserved

@@ -1,6 +1,6 @@
 use Rattle.std.proofs.Common.{◌≡◌, ◌-◌}
 use Rattle.mat_files.specs.Tables.{cells_at}
-use Rattle.mat_files.proofs.TableLemmas.{with_front}
+use Rattle.mat_files.proofs.CellByCell.{with_front}
 use Rattle.mat_files.proofs.tables.read_cells.Given as goal
 
 -- the cells so far and what is left give what all gives

@@ -1,6 +1,6 @@
 use Rattle.std.proofs.Common.{rules, ap, ◌∙◌, pos}
 use Rattle.std.proofs.lemmas.Result.{err_from_is_err_and}
-use Rattle.mat_files.specs.Texts.{text_of}
+use Rattle.mat_files.specs.Printed.{text_of}
 use Rattle.solution_files.proofs.FileLemmas.{head_line, head_written, head_refused}
 use Rattle.solution_files.proofs.output.write_grid.Goals as goal
 

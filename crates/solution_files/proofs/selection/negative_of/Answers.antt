@@ -1,7 +1,7 @@
 use Rattle.std.proofs.Common.{rules, ◌≡◌, ◌+◌, ◌++◌, [], ◌∷◌, pos, get_or, refl, ap, ◌∙◌, drop, SFits, w64, to_z-of_z}
 use Rattle.std.specs.Prelude.{neg_ℤ}
-use Rattle.lift_core.specs.Systems.{InRange}
-use Rattle.lift_core.specs.Written.{negated}
+use Rattle.int_vector.specs.Range.{InRange}
+use Rattle.int_vector.specs.Vectors.{negated}
 use Rattle.solution_files.proofs.RowLemmas.{one_more_negated, each_at}
 use Rattle.solution_files.proofs.selection.negative_of.Goals as goal
 

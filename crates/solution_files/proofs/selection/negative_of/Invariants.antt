@@ -1,5 +1,5 @@
 use Rattle.std.proofs.Common.{◌≡◌, ◌++◌, drop}
-use Rattle.lift_core.specs.Written.{negated}
+use Rattle.int_vector.specs.Vectors.{negated}
 use Rattle.solution_files.proofs.selection.negative_of.Given as goal
 
 abbrev pub invariant-loop-entry : goal.invariant-loop-entry

@@ -1,6 +1,6 @@
-use Rattle.std.proofs.Common.{rules, ◌≡◌, ◌<◌, ◌≤◌, ◌+◌, ◌++◌, [], ◌∷◌, List, ℕ, length, sym, ap, ◌∙◌, arith, take, Bor, ℤ, length-append, drop, subst, true}
-use Rattle.lift_core.specs.Systems.{width, InRange}
-use Rattle.lift_core.specs.Written.{HasHome}
+use Rattle.std.proofs.Common.{◌≡◌, ◌<◌, ◌≤◌, ◌+◌, ◌++◌, [], ◌∷◌, length, sym, ap, ◌∙◌, arith, length-append, drop, subst, true}
+use Rattle.int_vector.specs.Range.{InRange}
+use Rattle.lift_core.specs.Inside.Written.{HasX0}
 use Rattle.std.proofs.lemmas.List.Elements.{recursion_from_All}
 use Rattle.solution_files.specs.Outputs.{kind_of}
 use Rattle.solution_files.specs.Steps.{projected, rows_behind, AreRows}
@@ -27,7 +27,7 @@ loop-place-preserved c =
           }
       | else-is_of_kind w ↦
           let same : c.if-is_of_kind.rows.items ≡ c.loop-place.rows.items = ap (λ v. v.items) w.rows-is in
-          let other : HasHome (kind_of c.args.kind) c.row-row.result.now → ⊥ = λ h. (let e : c.is_of_kind.result ≡ true = c.is_of_kind.ensures.1 h in cc) in
+          let other : HasX0 (kind_of c.args.kind) c.row-row.result.now → ⊥ = λ h. (let e : c.is_of_kind.result ≡ true = c.is_of_kind.ensures.1 h in cc) in
           record {
             so_far =
                 ap (λ refs. rows_behind refs ++ projected n (kind_of c.args.kind) (drop (c.loop-place.place + 1) finished)) same

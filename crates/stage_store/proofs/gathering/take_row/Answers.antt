@@ -1,6 +1,7 @@
 use Rattle.std.proofs.Common.{◌≡◌, ◌∙◌, ◌-◌, ◌*◌, ◌+◌, arith, ap, sym, refl, subst, length, take, drop}
 use Rattle.std.specs.Prelude.{List, ℤ, map}
-use Rattle.lift_core.specs.Systems.{ToolSystem, width}
+use Rattle.lift_core.specs.Systems.{ToolSystem}
+use Rattle.lift_core.specs.ToolSystems.{width}
 use Rattle.std.proofs.lemmas.List.{length-take-le}
 use Rattle.stage_store.specs.Classes.{rows_at}
 use Rattle.stage_store.specs.Clashes.{TellsOf, TellClashes}

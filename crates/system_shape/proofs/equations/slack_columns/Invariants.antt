@@ -1,6 +1,6 @@
 -- The slacks so far and those that are left are all.
 use Rattle.std.proofs.Common.{◌≡◌, ◌+◌, ◌≤◌, drop}
-use Rattle.system_shape.specs.Cells.{slack_total}
+use Rattle.system_shape.specs.Inside.Cells.{slack_total}
 use Rattle.system_shape.proofs.equations.slack_columns.Given as goal
 
 abbrev pub invariant-loop-relation : goal.invariant-loop-relation

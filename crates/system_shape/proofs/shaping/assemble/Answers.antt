@@ -1,9 +1,12 @@
 -- The system of files without a fault can be built of its signs and entries.
 use Rattle.std.proofs.Common.{◌≡◌, ◌≤◌, ℕ, ◌%◌, length, sym, ap, ap₂, subst, subst₂, rules, ◌∙◌, arith}
 use Rattle.std.specs.List.{All}
-use Rattle.lift_core.specs.Systems.{ToolSystem, InRange, IsSign, AreCaps}
-use Rattle.system_shape.specs.Shape.{user_system, system_of}
-use Rattle.system_shape.specs.Accepted.{IsAccepted}
+use Rattle.lift_core.specs.Systems.{ToolSystem}
+use Rattle.int_vector.specs.Range.{InRange}
+use Rattle.lift_core.specs.ToolSystems.{IsSign, AreCaps}
+use Rattle.system_shape.specs.Shape.{user_system}
+use Rattle.system_shape.specs.Slacks.{linear_system}
+use Rattle.system_shape.specs.Inside.Accepted.{IsAccepted}
 use Rattle.system_shape.proofs.Building.{fitting_accepted, first_columns, most_width, whole_rows, few_entries, entries_small, signs_known, cap_count, caps_fit, built}
 use Rattle.system_shape.proofs.shaping.assemble.Goals as goal
 
@@ -33,7 +36,7 @@ build-requires-clause-lengths c =
     let U = user_system c.args.tool c.args.input.now in
     let a : IsAccepted c.args.tool U = fitting_accepted c.args.tool c.args.input.now c.requires.fitting in
     let w : c.len-width.result ≡ length c.args.signs.items = search rules in
-    let v : c.len-width.result ≡ length (system_of U).signs = w ∙ ap length c.requires.signs in (
+    let v : c.len-width.result ≡ length (linear_system U).signs = w ∙ ap length c.requires.signs in (
       sym w,
       ap₂ (λ l k. l % k) (ap length c.requires.entries) v ∙ whole_rows c.args.tool U a,
       omega (arith, ap length c.requires.entries, few_entries c.args.tool U a),
@@ -66,7 +69,7 @@ returns c =
     let U = user_system c.args.tool c.args.input.now in
     let a : IsAccepted c.args.tool U = fitting_accepted c.args.tool c.args.input.now c.requires.fitting in
     let w : c.len-width.result ≡ length c.args.signs.items = search rules in
-    let as_tool : ℕ → ToolSystem = λ n. record { tool = c.args.tool; n = n; equations = system_of U } in
+    let as_tool : ℕ → ToolSystem = λ n. record { tool = c.args.tool; n = n; equations = linear_system U } in
     c.build.ensures
     ∙ built c.args.tool U a c.mat.inside.cols c.args.signs.items c.args.caps.items c.args.entries.items c.len-width.result c.requires.signs c.requires.caps c.requires.entries w
     ∙ ap as_tool (ap (λ m. m.cols) c.mat.view_is)

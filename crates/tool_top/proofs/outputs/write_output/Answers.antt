@@ -1,6 +1,6 @@
 use Rattle.std.proofs.Common.{◌≡◌, ◌∙◌, ◌++◌, ap, ◌∷◌, [], refl, sym, subst, inl}
 use Rattle.std.proofs.lemmas.Result.{err_from_is_err_and}
-use Rattle.mat_files.specs.Texts.{text_of}
+use Rattle.mat_files.specs.Printed.{text_of}
 use Rattle.solution_files.specs.Outputs.{MayWrite}
 use Rattle.tool_top.specs.Names.{file_name}
 use Rattle.tool_top.specs.Inside.Writing.{output_of, CutsTo}

@@ -1,5 +1,6 @@
+-- The places are found one after another.
 use Rattle.std.proofs.Common.{◌≡◌, ◌++◌, ◌≤◌, length, take, drop}
-use Rattle.lift_core.specs.Capped.{capped_from}
+use Rattle.lift_core.specs.Inside.Capped.{capped_from}
 use Rattle.lift_core.proofs.capped.CappedColumns.of.Given as goal
 
 -- the places so far and those that are left are all

@@ -1,7 +1,8 @@
 use Rattle.std.proofs.Common.{◌≡◌, ◌∙◌, ◌+◌, ◌*◌, ◌/◌, ◌<◌, ◌≤◌, ℕ, List, length, take, get_or, sym, ap, arith}
 use Rattle.std.specs.Prelude.{ℤ, pos}
 use Rattle.std.proofs.lemmas.List.{length-map, length-take-le}
-use Rattle.lift_core.specs.Systems.{ToolSystem, width}
+use Rattle.lift_core.specs.Systems.{ToolSystem}
+use Rattle.lift_core.specs.ToolSystems.{width}
 use Rattle.stage_store.specs.Classes.{row_at, rows_at}
 use Rattle.stage_store.specs.Signs.{entry_at}
 use Rattle.stage_store.proofs.SignLines.{entry_is}

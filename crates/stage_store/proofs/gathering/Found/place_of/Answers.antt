@@ -2,7 +2,7 @@ use Rattle.std.proofs.Common.{◌≡◌, ◌∙◌, sym, ap, arith, subst, ◌+�
 use Rattle.std.specs.Prelude.{List, ℤ}
 use Rattle.std.specs.List.Sorted.{IsStrictlySortedBy}
 use Rattle.std.proofs.lemmas.List.{get_or_read, length-map}
-use Rattle.lift_core.specs.Stages.{lex_cmp}
+use Rattle.int_vector.specs.Vectors.{lex_cmp}
 use Rattle.stage_store.specs.Classes.{row_at, rows_at}
 use Rattle.stage_store.specs.Found.{rows_found}
 use Rattle.stage_store.proofs.Ordered.{row_of_place, up_to_middle, from_middle, at_middle}

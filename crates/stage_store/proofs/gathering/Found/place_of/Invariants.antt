@@ -1,5 +1,5 @@
 use Rattle.std.proofs.Common.{◌-◌, ◌≡◌, ◌<◌, ◌≤◌, ℕ, length, Less}
-use Rattle.lift_core.specs.Stages.{lex_cmp}
+use Rattle.int_vector.specs.Vectors.{lex_cmp}
 use Rattle.stage_store.specs.Classes.{row_at}
 use Rattle.stage_store.proofs.gathering.Found.place_of.Given as goal
 

@@ -1,5 +1,0 @@
-use Rattle.std.proofs.Common.{rules}
-use Rattle.lift_core.proofs.equations.System.solves.Goals as goal
-
-pub returns : goal.returns
-returns c = search rules

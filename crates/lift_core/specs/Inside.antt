@@ -1,0 +1,7 @@
+-- What serves the layers below the programs: no definition of the problem or of the ends stands on it.
+pub mod Capped
+pub mod Units
+pub mod Decompositions
+pub mod PairSums
+pub mod Walks
+pub mod Written

@@ -1,0 +1,107 @@
+-- The problem that the three commands solve, in the words of the field. Nothing here says how it is solved.
+--
+-- A system has an unknown x of n entries, each with a sign and perhaps a cap, and rows `a x <= b`, `a x = b` or
+-- `a x >= b`. It is asked for with the right sides b (c = 1), with right sides 0 (c = 0), or for both together. Wanted are
+-- the solutions that are minimal in the conformal order of Graver (1975), which compares x and the differences of both
+-- sides of each inequality. Norm, product, order and lists: `int_vector/specs/Vectors.antt`, `lift_core/specs/Lists.antt`.
+use Rattle.std.specs.Prelude.{◌≡◌, ℕ, List, [], ◌∷◌, ◌++◌, ℤ, pos, ◌*ℤ◌, ◌-ℤ◌, ◌≤ℤ◌, Option, Bool, true, false, IsTrue, ⊤}
+use Rattle.std.specs.List.{AllZip, AllByRecursion}
+use Rattle.int_vector.specs.Vectors.{dot, ◌⊑◌, IsZero, lex_cmp, negated, leads_negative}
+use Rattle.lift_core.specs.Lists.{IsListOf}
+use Rattle.lift_core.specs.Columns.{HasSign, IsCapped, Kind, Homogeneous, Inhomogeneous, Every}
+
+-- ---- the user's system
+-- how the product of a row with x stands to the right side: at most, equal or at least
+pub data Relation : Type 0 where
+  at_most : Relation
+  equal_to : Relation
+  at_least : Relation
+
+abbrev pub Stands : Relation → ℤ → ℤ → Type 0
+Stands at_most p q = p ≤ℤ q
+Stands equal_to p q = p ≡ q
+Stands at_least p q = q ≤ℤ p
+
+-- a row: its coefficients a, its relation, and its right side b
+pub record UserRow : Type 0 where
+  pub coefficients : List ℤ
+  pub relation : Relation
+  pub right : ℤ
+
+-- the sign and the cap of each entry of x, the rows, and whether there is x0, by which the right sides are multiplied
+pub record UserSystem : Type 0 where
+  pub signs : List ℤ
+  pub caps : List (Option ℕ)
+  pub rows : List UserRow
+  pub x0 : Bool
+
+-- ---- its solutions
+-- x obeys signs and caps, and the product of each row with x stands to c times the right side as the relation says
+pub record SolvesUser (U : UserSystem) (c : ℤ) (x : List ℤ) : Type 0 where
+  pub signs : AllZip HasSign U.signs x
+  pub caps : AllZip IsCapped U.caps x
+  pub rows : AllByRecursion (λ r. Stands r.relation (dot r.coefficients x) (r.right *ℤ c)) U.rows
+
+-- the values of c: 0 or 1 where there is x0, and else 0
+abbrev pub IsX0 : Bool → ℤ → Type 0
+IsX0 true c = (pos 0 ≤ℤ c) × (c ≤ℤ pos 1)
+IsX0 false c = c ≡ pos 0
+
+-- x solves the system with c times the right sides
+pub record IsUserSolution (U : UserSystem) (c : ℤ) (x : List ℤ) : Type 0 where
+  pub x0 : IsX0 U.x0 c
+  pub solves : SolvesUser U c x
+
+-- ---- the full vector
+-- the difference of both sides of an inequality, which is not negative where it holds; an equation has none
+abbrev pub difference_before : Relation → ℤ → ℤ → List ℤ → List ℤ
+difference_before at_most p q rest = (q -ℤ p) ∷ rest
+difference_before equal_to p q rest = rest
+difference_before at_least p q rest = (p -ℤ q) ∷ rest
+
+-- the differences of all rows, in their order
+abbrev pub differences : List UserRow → ℤ → List ℤ → List ℤ
+differences [] c x = []
+differences (r ∷ rows) c x =
+    difference_before r.relation (dot r.coefficients x) (r.right *ℤ c) (differences rows c x)
+
+-- c, where there is x0
+abbrev pub x0_entry : Bool → ℤ → List ℤ
+x0_entry true c = c ∷ []
+x0_entry false c = []
+
+-- x, then the differences, then c
+abbrev pub full_vector : UserSystem → ℤ → List ℤ → List ℤ
+full_vector U c x = x ++ (differences U.rows c x ++ x0_entry U.x0 c)
+
+-- ---- what is wanted
+-- the full vector of x is not zero, and the full vector of no other solution is below it, but for zero
+pub record IsMinimalForUser (U : UserSystem) (c : ℤ) (x : List ℤ) : Type 0 where
+  pub solution : IsUserSolution U c x
+  pub nonzero : ¬ IsZero (full_vector U c x)
+  pub least : (d : ℤ) (y : List ℤ) → IsUserSolution U d y → ¬ IsZero (full_vector U d y)
+      → full_vector U d y ⊑ full_vector U c x → (d ≡ c) × (y ≡ x)
+
+-- the values of c that are asked for: the homogeneous solutions, the inhomogeneous ones, or all
+abbrev pub IsOfKind : Kind → ℤ → Type 0
+IsOfKind Homogeneous c = c ≡ pos 0
+IsOfKind Inhomogeneous c = c ≡ pos 1
+IsOfKind Every c = ⊤
+
+-- x is a minimal solution of that kind
+pub record IsWrittenForUser (U : UserSystem) (kind : Kind) (x : List ℤ) : Type 0 where
+  pub times : ℤ
+  pub of_kind : IsOfKind kind times
+  pub minimal : IsMinimalForUser U times x
+
+-- the wanted list, in lexicographic order: the minimal homogeneous or inhomogeneous solutions, or the Hilbert basis
+abbrev pub IsWantedForUser : UserSystem → Kind → List (List ℤ) → Type 0
+IsWantedForUser U kind rows = IsListOf lex_cmp (IsWrittenForUser U kind) rows
+
+-- the Graver basis: of a minimal vector and its negative, where both are there, the one that leads positive
+abbrev pub IsWantedGraverForUser : UserSystem → List (List ℤ) → Type 0
+IsWantedGraverForUser U rows =
+    IsListOf lex_cmp
+    (λ x. IsWrittenForUser U Every x
+    × (IsWrittenForUser U Every (negated x) → IsTrue (leads_negative x) → ⊥))
+    rows
