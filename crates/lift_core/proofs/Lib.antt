@@ -1,3 +1,5 @@
+pub mod Times
+pub mod PureMachine
 pub mod Caps
 pub mod Cells
 pub mod Search
@@ -25,3 +27,4 @@ pub mod Written
 pub mod Descent
 pub mod Trying
 pub mod Examples
+pub mod SmallHalf

@@ -4,5 +4,9 @@ pub mod Systems
 pub mod ToolSystems
 pub mod Stages
 pub mod Ends
+pub mod Times
+pub mod PureMachine
+pub mod MachineLaws
 pub mod Inside
 pub mod Laws
+pub mod Halves

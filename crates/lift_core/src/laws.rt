@@ -1,6 +1,7 @@
 //! The laws of the lifting. Each function does nothing: what it ensures is the law.
 
 ghost use Rattle.lift_core.specs.Laws.{Completeness, Decomposes, FinishedRows, FinishedRun, FirstPlace, Grows, ListsGrow, NextRows, NoneBetween, OneEnd, OneGrown, OneLeadsNegative, OneListed, OneNextNorm, OneNorm, OneRun, OneSolutionList, OneStageList, OneTerm, OneUsed, OneWaiting, OneWalk, OneWanted, OneWantedGraver, RunWalks, SmallerLast, SolutionsAreMinimal, StageDecomposes, StageStarts, SumsDescend, UnitsAreMinimal, WalkHasTheEnd};
+ghost use Rattle.lift_core.specs.MachineLaws.{BookHasAllSums, EachBlockOnce, EachNumberOnce};
 
 /// Where lifting starts: the minimal solutions of no equations are the signed unit vectors.
 pub fn unit_law()
@@ -67,4 +68,12 @@ pub fn written_law()
     ensures wanted { OneWanted }
     ensures graver { OneWantedGraver }
     ensures leads { OneLeadsNegative }
+{}
+
+/// Every complete run of the pure machine of a norm has each block in its book exactly once, whatever the order of events.
+/// So the sums of the book's blocks are all irreducible sums of the norm: every schedule gives the same list.
+pub fn core_law()
+    ensures number { EachNumberOnce }
+    ensures once { EachBlockOnce }
+    ensures sums { BookHasAllSums }
 {}

@@ -2,11 +2,14 @@
 #![tactic(auto)]
 
 mod capped;
+pub mod halves;
 mod int_row;
 pub mod laws;
+mod machine;
 mod system;
 
 pub use int_row::IntRow;
+pub use machine::{Core, Event, StepEnd};
 pub use system::System;
 
 /// What a system is solved for, after the commands of 4ti2.

@@ -1,10 +1,14 @@
+pub use Rattle.outside.specs.Causes
 pub use Rattle.lift_core.specs.Systems
 pub use Rattle.lift_core.specs.ToolSystems
 pub use Rattle.lift_core.specs.Stages
 pub use Rattle.lift_core.specs.Ends
 pub use Rattle.stage_store.specs.Stage
 pub use Rattle.stage_store.specs.Lifted
+pub use Rattle.stage_store.specs.Published
 pub mod Lifts
 pub mod Runs
-pub mod Steps
 pub mod Counts
+pub mod Keeps
+pub mod Places
+pub mod Inside

@@ -11,18 +11,19 @@ use Rattle.stage_store.specs.declared.stage.Lifted.TheVariants.{Next, Last}
 use Rattle.lift_run.specs.declared.ends.Limits.{Limits}
 use Rattle.lift_run.specs.declared.ends.Place.TheVariants.{Row, Norm}
 use Rattle.lift_run.specs.declared.ends.RunEnd.{RunEnd}
-use Rattle.lift_run.specs.declared.ends.RunEnd.TheVariants.{Overflow, Pairs, Rows, Memory}
+use Rattle.lift_run.specs.declared.ends.RunEnd.TheVariants.{Overflow, Pairs, Rows, Failed, Memory}
 
 -- the limits as the definitions have them
 abbrev pub bounds : Limits → Bounds
 bounds l = record { pairs = l.pairs; rows = l.rows }
 
--- the end that is named; want of memory names none
+-- the end that is named; a failed Keep and want of memory name none
 abbrev pub end_of_error : RunEnd → Option End
 end_of_error (Overflow k (Row v)) = Some (row_overflow k v)
 end_of_error (Overflow k (Norm e)) = Some (norm_overflow k e)
 end_of_error (Pairs k e n) = Some (pairs_spent k e n)
 end_of_error (Rows k e n) = Some (rows_spent k e n)
+end_of_error Failed = None
 end_of_error Memory = None
 
 abbrev pub end_of : Result Finish RunEnd → Option End

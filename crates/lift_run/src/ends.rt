@@ -3,12 +3,16 @@
 ghost use Rattle.std.specs.Prelude.{◌≡◌};
 
 use lift_core::IntRow;
+use outside::PutEnd;
 use stage_store::LiftEnd;
 use std::alloc::AllocError;
 
-/// The most pairs and listed rows that a run may have. (The number of workers is not among them yet.)
+/// How many workers a run has, and the most pairs and listed rows that it may have. What a run gives is the same for every
+/// number of workers.
 #[derive(Clone, Copy, Debug, PartialEq, Eq)]
 pub struct Limits {
+    /// How many workers work out a norm: 1 to 32.
+    pub workers: u32,
     /// The most pairs that may be used, those of all stages together: at most 2^62.
     pub pairs: u64,
     /// The most rows that a stage may list: 1 to 2^21.
@@ -16,6 +20,10 @@ pub struct Limits {
 }
 
 impl Limits {
+    /// The greatest number of workers.
+    pub const MAX_WORKERS: u32 = 32;
+    /// The number of workers where none is asked for.
+    pub const DEFAULT_WORKERS: u32 = 4;
     /// The greatest budget of pairs.
     pub const MAX_PAIRS: u64 = 4_611_686_018_427_387_904;
     /// The greatest budget of rows.
@@ -27,12 +35,13 @@ impl Limits {
 }
 
 impl Default for Limits {
-    ghost use Rattle.lift_run.specs.declared.ends.TheConstants.Limits.{DEFAULT_PAIRS, DEFAULT_ROWS};
+    ghost use Rattle.lift_run.specs.declared.ends.TheConstants.Limits.{DEFAULT_PAIRS, DEFAULT_ROWS, DEFAULT_WORKERS};
 
-    ghost is_default = { λ l. (l.pairs ≡ DEFAULT_PAIRS) × (l.rows ≡ DEFAULT_ROWS) };
+    ghost is_default = { λ l. (l.pairs ≡ DEFAULT_PAIRS) × (l.rows ≡ DEFAULT_ROWS) × (l.workers ≡ DEFAULT_WORKERS) };
 
     fn default() -> Limits {
         Limits {
+            workers: Limits::DEFAULT_WORKERS,
             pairs: Limits::DEFAULT_PAIRS,
             rows: Limits::DEFAULT_ROWS,
         }
@@ -57,6 +66,8 @@ pub enum RunEnd {
     Pairs { stage: u32, norm: u64, needed: u64 },
     /// So many rows would be listed once this norm is closed, more than the limit.
     Rows { stage: u32, norm: u64, count: u64 },
+    /// The Keep failed, and its count of faults rose.
+    Failed,
     /// Memory was refused.
     Memory,
 }
@@ -83,6 +94,19 @@ impl From<LiftEnd> for RunEnd {
                 place: Place::Row(row),
             },
             LiftEnd::Memory => RunEnd::Memory,
+        }
+    }
+}
+
+impl From<PutEnd> for RunEnd {
+    ghost use Rattle.lift_run.specs.Lifts.{run_end_kept};
+
+    ghost from_gives = { λ e r. r ≡ run_end_kept e };
+
+    fn from(end: PutEnd) -> RunEnd {
+        match end {
+            PutEnd::Failed => RunEnd::Failed,
+            PutEnd::Memory => RunEnd::Memory,
         }
     }
 }

@@ -4,3 +4,6 @@ pub mod Ends
 pub mod Shelves
 pub mod Trials
 pub mod Reading
+pub mod Inside
+pub mod Pieces
+pub mod Names

@@ -1,9 +1,10 @@
 -- Sets of bits: the union and the common bits of two, and a test for a part.
-use Rattle.std.proofs.Common.{◌≡◌, ℕ, ◌-◌, ◌^◌, ◌≤◌, ◌<◌, max, min, sym, ap, ◌∙◌, arith, inl, inr}
+use Rattle.std.proofs.Common.{◌≡◌, ◌≢◌, ℕ, ◌-◌, ◌*◌, ◌%◌, ◌^◌, ◌≤◌, ◌<◌, max, min, sym, ap, ◌∙◌, arith, inl, inr}
 use Rattle.std.specs.Prelude.{bit_or, bit_and}
 use Rattle.std.specs.Int.{bit_at, bit_not, w128}
 use Rattle.std.proofs.lemmas.Bool.{cases_lt}
-use Rattle.std.proofs.lemmas.Nat.Bits.{bit_at_or, bit_at_and, bit_at_not, bit_at-zero, bit_at-lt, bit_at_above, same_from_bits}
+use Rattle.std.proofs.lemmas.Nat.Bits.{bit_at_or, bit_at_and, bit_at_not, bit_at-zero, bit_at-lt, bit_at_above, bit_at_clear_same, bit_at_clear_other, same_from_bits}
+use Rattle.std.proofs.lemmas.Nat.{and_le_l}
 use Rattle.reduce_tree.specs.Bits.{IsPartOf}
 
 max_assoc : (x y z : ℕ) → max (max x y) z ≡ max x (max y z)
@@ -75,3 +76,42 @@ part_apart a b outside h e = same_from_bits (bit_and a outside) 0 (λ i.
   where
     less : (x y z : ℕ) → x ≤ y → min y z ≡ 0 → min x z ≡ 0
     less x y z f g = omega arith
+
+-- ---- sets of classes
+pub set_kept : (a b i : ℕ) → bit_at a i ≡ 1 → bit_at (bit_or a b) i ≡ 1
+set_kept a b i e = kept (bit_at a i) (bit_at b i) (bit_at (bit_or a b) i) e (bit_at_or a b i) (bit_at-lt (bit_or a b) i)
+  where
+    kept : (x y u : ℕ) → x ≡ 1 → u ≡ max x y → u < 2 → u ≡ 1
+    kept x y u e m l = omega arith
+
+pub set_shared : (a b i : ℕ) → bit_at a i ≡ 1 → bit_at b i ≡ 1 → bit_at (bit_and a b) i ≡ 1
+set_shared a b i e f = shared (bit_at a i) (bit_at b i) (bit_at (bit_and a b) i) e f (bit_at_and a b i)
+  where
+    shared : (x y u : ℕ) → x ≡ 1 → y ≡ 1 → u ≡ min x y → u ≡ 1
+    shared x y u e f m = omega arith
+
+pub set_inside : (n i : ℕ) → n < 2 ^ 128 → bit_at n i ≡ 1 → i < 128
+set_inside n i l e = elim (cases_lt i 128) [
+  | inl h ↦ h
+  | inr h ↦ absurd (one_or_zero (bit_at n i) e (bit_at_above n 128 i l h))
+]
+  where
+    one_or_zero : (x : ℕ) → x ≡ 1 → x ≡ 0 → ⊥
+    one_or_zero x e f = omega arith
+
+-- the set without one of its members is smaller, and has the others
+pub cleared_less : (n k : ℕ) → k < 128 → bit_at n k ≡ 1 → bit_and n (bit_not w128 (1 * 2 ^ k % 2 ^ 128)) < n
+cleared_less n k l e = elim (cases_lt (bit_and n (bit_not w128 (1 * 2 ^ k % 2 ^ 128))) n) [
+  | inl h ↦ h
+  | inr h ↦ absurd (differ (bit_at n k) (bit_at (bit_and n (bit_not w128 (1 * 2 ^ k % 2 ^ 128))) k) e (bit_at_clear_same w128 n k l)
+      (ap (λ m. bit_at m k) (same n (bit_and n (bit_not w128 (1 * 2 ^ k % 2 ^ 128))) h (and_le_l n (bit_not w128 (1 * 2 ^ k % 2 ^ 128))))))
+]
+  where
+    differ : (x y : ℕ) → x ≡ 1 → y ≡ 0 → x ≡ y → ⊥
+    differ x y e f g = omega arith
+
+    same : (m x : ℕ) → m ≤ x → x ≤ m → m ≡ x
+    same m x h k = omega arith
+
+pub cleared_other : (n k c : ℕ) → n < 2 ^ 128 → k < 128 → c ≢ k → bit_at n c ≡ 1 → bit_at (bit_and n (bit_not w128 (1 * 2 ^ k % 2 ^ 128))) c ≡ 1
+cleared_other n k c fits l d e = bit_at_clear_other w128 n k l c (set_inside n c fits e) d ∙ e

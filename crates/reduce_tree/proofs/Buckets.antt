@@ -1,124 +1,168 @@
--- Buckets: what a word of common bits rules out, and the words after one place more or less.
-use Rattle.std.proofs.Common.{◌≡◌, ℕ, ◌+◌, ◌-◌, ◌*◌, ◌/◌, ◌%◌, ◌≤◌, ◌<◌, List, [], ◌∷◌, ◌++◌, length, get_or, set, false, sym, ap, ◌∙◌, subst, arith, inl, inr, length-append, ◌⊎◌, length-set, if◌then◌else◌, ◌≢◌}
-use Rattle.std.specs.Prelude.{bit_and, ℤ}
+-- Buckets: what a word rules out, and the words once one row more is filed.
+-- A word is true of each row of its group, so where the bounds do not admit it they admit no row of the group.
+use Rattle.std.proofs.Common.{◌≡◌, ◌≢◌, ℕ, zero, suc, ◌+◌, ◌-◌, ◌/◌, ◌%◌, ◌≤◌, ◌<◌, List, [], ◌∷◌, ◌++◌, false, length, get_or, take, drop, sym, ap, ◌∙◌, subst, arith, inl, inr, length-append, ◌⊎◌}
+use Rattle.std.specs.Prelude.{ℤ, bit_and, min}
 use Rattle.std.specs.Bool.{IsTrue}
-use Rattle.std.proofs.lemmas.Bool.{cases_lt, cases_eq, eq-eqb, ne_eqb}
-use Rattle.std.proofs.lemmas.List.{get_or_default, get_or_append_left, get_or-set_same, get_or-set_other}
+use Rattle.std.specs.List.{AllByRecursion}
+use Rattle.std.proofs.lemmas.Bool.{cases_lt}
+use Rattle.std.proofs.lemmas.List.{take_all, get_or_append_left, get_or-take, length-take, length-drop, get_or-drop}
 use Rattle.std.proofs.Math.Seq.{get_or-append_seam}
 use Rattle.int_vector.specs.Vectors.{◌⊑◌}
-use Rattle.reduce_tree.specs.Bits.{IsPartOf}
-use Rattle.reduce_tree.specs.Buckets.{BucketValue, IsBucket, AreCommon, AreMarked, HasNoneBelow, row_at, with_common}
-use Rattle.reduce_tree.proofs.Bits.{part_apart, part_self, part_trans, and_part_first, and_part_second}
+use Rattle.reduce_tree.specs.declared.bounds.Bounds.{Bounds}
+use Rattle.reduce_tree.specs.declared.bounds.Word.{Word}
+use Rattle.reduce_tree.specs.declared.tree.Filed.{Filed}
+use Rattle.reduce_tree.specs.Inside.Bounds.{Admits, word_of, Covers}
+use Rattle.reduce_tree.specs.Inside.Buckets.{nothing_filed, no_word, AreCommon, IsRuledOut, IsMarked, IsNotBelow, AreNoneBelow}
+use Rattle.reduce_tree.proofs.Bits.{part_apart, part_trans, and_part_first, and_part_second}
 
--- where the common bits of neighbours meet those outside, none of the neighbours is below z
-none_in_word : (size : ℕ) (places bits words : List ℕ) (rows : List (List ℤ)) (z : List ℤ) (outside n word : ℕ) → AreMarked places bits rows z outside → AreCommon size words bits → length places ≡ length bits
-    → n < length words → word ≡ get_or words n word → (bit_and word outside ≡ 0 → ⊥) → (k : ℕ) → k / size ≡ n → k < length places → row_at rows places k ⊑ z → ⊥
-none_in_word size places bits words rows z outside n word marked common same inside is meets k e l below =
-    let w : get_or words n 0 ≡ word = get_or_default words n 0 word inside ∙ sym is in
-    meets (part_apart word (get_or bits k 0) outside
-    (subst (λ v. IsPartOf v (get_or bits k 0)) w (subst (λ m. IsPartOf (get_or words m 0) (get_or bits k 0)) e (common.part k (omega arith))))
-    (marked.within k l below))
+-- ---- the search
+-- what the bounds admit of a row they admit of a word that is true of it
+admits_word : (bounds : Bounds) (word : Word) (f : Filed) → Covers word f → Admits bounds (word_of f) → Admits bounds word
+admits_word bounds word f c a = record {
+  bits = part_apart word.bits f.bits bounds.outside c.bits a.bits;
+  size = omega (arith, c.size, a.size);
+  place = omega (arith, c.place, a.place);
+}
 
-abbrev pub value_of : List ℕ → List ℕ → BucketValue
-value_of places bits = record { places = places; bits = bits }
+pub filed_at : (P : Filed → Type 0) (filed : List Filed) (k : ℕ) → AllByRecursion P filed → k < length filed → P (get_or filed k nothing_filed)
+filed_at P [] k h l = absurd (omega arith)
+filed_at P (f ∷ filed) zero h l = h.0
+filed_at P (f ∷ filed) (suc k) h l = filed_at P filed k h.1 (omega arith)
 
--- a search has passed over the neighbours of word n
-pub passed_over : (size : ℕ) (b : BucketValue) (places bits words : List ℕ) (rows : List (List ℤ)) (z : List ℤ) (outside from n word : ℕ) → value_of places bits ≡ b → AreMarked b.places b.bits rows z outside → AreCommon size words bits
-    → length places ≡ length bits → n < length words → word ≡ get_or words n word → (bit_and word outside ≡ 0 → IsTrue false) → ((k : ℕ) → size * n ≤ k → k < size * (n + 1) → k / size ≡ n)
-    → HasNoneBelow b.places rows z from (size * n) → HasNoneBelow b.places rows z from (size * (n + 1))
-passed_over size b places bits words rows z outside from n word e marked common same inside is meets neighbours before =
-    subst (λ (v : BucketValue). HasNoneBelow v.places rows z from (size * (n + 1))) e (λ k f t l below. elim (cases_lt k (size * n)) [
-      | inl h ↦ subst (λ (v : BucketValue). HasNoneBelow v.places rows z from (size * n)) (sym e) before k f h l below
-      | inr h ↦ none_in_word size places bits words rows z outside n word (subst (λ (v : BucketValue). AreMarked v.places v.bits rows z outside) (sym e) marked) common same inside is (λ m. let w = meets m in absurd cc) k (neighbours k h t) l below
-    ])
-
--- ---- the words after one place more
--- what the numbers of neighbours say, where one comes as number n: they begin a new word, or share the last one
-record Begins (size n : ℕ) : Type 0 where
-  full : (n + (size - 1)) / size ≡ n / size
-  next : (n + 1 + (size - 1)) / size ≡ n / size + 1
-  before : (k : ℕ) → k < n → k / size < n / size
-
-record Shares (size n : ℕ) : Type 0 where
-  last : n / size < (n + (size - 1)) / size
-  next : (n + 1 + (size - 1)) / size ≡ (n + (size - 1)) / size
-
-begins_eight : (n : ℕ) → n % 8 ≡ 0 → Begins 8 n
-begins_eight n e = record { full = omega arith; next = omega arith; before = λ k l. omega arith }
-
-shares_eight : (n : ℕ) → n % 8 ≢ 0 → Shares 8 n
-shares_eight n e = record { last = omega arith; next = omega arith }
-
-begins_block : (n : ℕ) → n % 64 ≡ 0 → Begins 64 n
-begins_block n e = record { full = omega arith; next = omega arith; before = λ k l. omega arith }
-
-shares_block : (n : ℕ) → n % 64 ≢ 0 → Shares 64 n
-shares_block n e = record { last = omega arith; next = omega arith }
-
-common_begun : (size : ℕ) (words bits : List ℕ) (b : ℕ) → Begins size (length bits) → AreCommon size words bits → AreCommon size (words ++ b ∷ []) (bits ++ b ∷ [])
-common_begun size words bits b s h =
-    let n : length (bits ++ b ∷ []) ≡ length bits + 1 = length-append bits (b ∷ []) in
-    let m : length (words ++ b ∷ []) ≡ length words + 1 = length-append words (b ∷ []) in
-    record {
-      count = m ∙ ap (λ w. w + 1) (h.count ∙ s.full) ∙ sym s.next ∙ ap (λ k. (k + (size - 1)) / size) (sym n);
-      part = λ k l. elim (cases_lt k (length bits)) [
-        | inl f ↦
-            let inside : k / size < length words = subst (λ w. k / size < w) (sym (h.count ∙ s.full)) (s.before k f) in
-            subst (λ w. IsPartOf w (get_or (bits ++ b ∷ []) k 0)) (sym (get_or_append_left words (b ∷ []) 0 (k / size) inside))
-            (subst (λ v. IsPartOf (get_or words (k / size) 0) v) (sym (get_or_append_left bits (b ∷ []) 0 k f)) (h.part k f))
-        | inr f ↦
-            let here : k ≡ length bits = omega (arith, n) in
-            let place : length words ≡ length bits / size = h.count ∙ s.full in
-            subst (λ i. IsPartOf (get_or (words ++ b ∷ []) (i / size) 0) (get_or (bits ++ b ∷ []) i 0)) (sym here)
-            (subst (λ i. IsPartOf (get_or (words ++ b ∷ []) i 0) (get_or (bits ++ b ∷ []) (length bits) 0)) place
-            (subst (λ w. IsPartOf w (get_or (bits ++ b ∷ []) (length bits) 0)) (sym (get_or-append_seam words b [] 0))
-            (subst (λ v. IsPartOf b v) (sym (get_or-append_seam bits b [] 0)) (part_self b))))
-      ];
-    }
-
-common_shared : (size : ℕ) (words bits : List ℕ) (b : ℕ) → Shares size (length bits) → AreCommon size words bits
-    → AreCommon size (set words (length bits / size) (bit_and (get_or words (length bits / size) 0) b)) (bits ++ b ∷ [])
-common_shared size words bits b s h =
-    let j : ℕ = length bits / size in
-    let w : ℕ = get_or words (length bits / size) 0 in
-    let n : length (bits ++ b ∷ []) ≡ length bits + 1 = length-append bits (b ∷ []) in
-    let inside : length bits / size < length words = subst (λ m. length bits / size < m) (sym h.count) s.last in
-    record {
-      count = length-set words (length bits / size) (bit_and (get_or words (length bits / size) 0) b) ∙ h.count ∙ sym s.next ∙ ap (λ k. (k + (size - 1)) / size) (sym n);
-      part = λ k l. elim (cases_lt k (length bits)) [
-        | inl f ↦
-            subst (λ v. IsPartOf (get_or (set words (length bits / size) (bit_and (get_or words (length bits / size) 0) b)) (k / size) 0) v) (sym (get_or_append_left bits (b ∷ []) 0 k f))
-            (old k f (cases_eq (k / size) (length bits / size)) inside)
-        | inr f ↦
-            let here : k ≡ length bits = omega (arith, n) in
-            subst (λ i. IsPartOf (get_or (set words (length bits / size) (bit_and (get_or words (length bits / size) 0) b)) (i / size) 0) (get_or (bits ++ b ∷ []) i 0)) (sym here)
-            (subst (λ v. IsPartOf v (get_or (bits ++ b ∷ []) (length bits) 0)) (sym (get_or-set_same words (length bits / size) (bit_and (get_or words (length bits / size) 0) b) 0 inside))
-            (subst (λ v. IsPartOf (bit_and (get_or words (length bits / size) 0) b) v) (sym (get_or-append_seam bits b [] 0)) (and_part_second (get_or words (length bits / size) 0) b)))
-      ];
-    }
-  where
-    old : (k : ℕ) → k < length bits → (k / size ≡ length bits / size) ⊎ (k / size ≢ length bits / size) → length bits / size < length words
-        → IsPartOf (get_or (set words (length bits / size) (bit_and (get_or words (length bits / size) 0) b)) (k / size) 0) (get_or bits k 0)
-    old k f (inl e) inside =
-        let first : IsPartOf (get_or words (length bits / size) 0) (get_or bits k 0) = subst (λ i. IsPartOf (get_or words i 0) (get_or bits k 0)) e (h.part k f) in
-        subst (λ i. IsPartOf (get_or (set words (length bits / size) (bit_and (get_or words (length bits / size) 0) b)) i 0) (get_or bits k 0)) (sym e)
-        (subst (λ v. IsPartOf v (get_or bits k 0)) (sym (get_or-set_same words (length bits / size) (bit_and (get_or words (length bits / size) 0) b) 0 inside))
-        (part_trans (bit_and (get_or words (length bits / size) 0) b) (get_or words (length bits / size) 0) (get_or bits k 0) (and_part_first (get_or words (length bits / size) 0) b) first))
-    old k f (inr d) inside =
-        subst (λ v. IsPartOf v (get_or bits k 0)) (sym (get_or-set_other words (length bits / size) (k / size) (bit_and (get_or words (length bits / size) 0) b) 0 d)) (h.part k f)
-
-common_more : (size : ℕ) (words bits : List ℕ) (b : ℕ) → (length bits % size ≡ 0 → Begins size (length bits)) → (length bits % size ≢ 0 → Shares size (length bits)) → AreCommon size words bits
-    → AreCommon size (with_common size (length bits) b words) (bits ++ b ∷ [])
-common_more size words bits b first other h = elim (cases_eq (length bits % size) 0) [
-  | inl e ↦ subst (λ t. AreCommon size (if t then words ++ b ∷ [] else set words (length bits / size) (bit_and (get_or words (length bits / size) 0) b)) (bits ++ b ∷ [])) (sym (eq-eqb (length bits % size) 0 e)) (common_begun size words bits b (first e) h)
-  | inr d ↦ subst (λ t. AreCommon size (if t then words ++ b ∷ [] else set words (length bits / size) (bit_and (get_or words (length bits / size) 0) b)) (bits ++ b ∷ [])) (sym (ne_eqb (length bits % size) 0 d)) (common_shared size words bits b (other d) h)
+-- a group whose word is ruled out is passed over
+pub passed_over : (size : ℕ) (bucket : List Filed) (words : List Word) (rows : List (List ℤ)) (z : List ℤ) (bounds : Bounds) (n to : ℕ)
+    → AllByRecursion (IsMarked rows z bounds) bucket → AreCommon size words bucket → IsRuledOut words n bounds → ((k : ℕ) → to ≤ k → k < to + size → k / size ≡ n)
+    → AreNoneBelow bucket rows z bounds to → AreNoneBelow bucket rows z bounds (to + size)
+passed_over size bucket words rows z bounds n to marked common out group none = λ k f l before below. elim (cases_lt k to) [
+  | inl h ↦ none k h l before below
+  | inr h ↦
+      let e : k / size ≡ n = group k h f in
+      out.1 (admits_word bounds (get_or words n no_word) (get_or bucket k nothing_filed)
+      (subst (λ i. Covers (get_or words i no_word) (get_or bucket k nothing_filed)) e (common.covers k l (subst (λ i. i < length words) (sym e) out.0)))
+      ((filed_at (IsMarked rows z bounds) bucket k marked l).admitted below before))
 ]
 
-pub bucket_more : (places bits eights blocks : List ℕ) (place b : ℕ) → length bits + 1 < 4294967296 → IsBucket places bits eights blocks
-    → IsBucket (places ++ place ∷ []) (bits ++ b ∷ []) (with_common 8 (length bits) b eights) (with_common 64 (length bits) b blocks)
-bucket_more places bits eights blocks place b few h = record {
-  same = omega (arith, h.same, length-append places (place ∷ []), length-append bits (b ∷ []));
-  few = omega (arith, few, length-append bits (b ∷ []));
-  by_eight = common_more 8 eights bits b (begins_eight (length bits)) (shares_eight (length bits)) h.by_eight;
-  by_block = common_more 64 blocks bits b (begins_block (length bits)) (shares_block (length bits)) h.by_block;
-}
+pub none_more : (bucket : List Filed) (rows : List (List ℤ)) (z : List ℤ) (bounds : Bounds) (to : ℕ) → AreNoneBelow bucket rows z bounds to → (to < length bucket → IsNotBelow rows z bounds (get_or bucket to nothing_filed))
+    → AreNoneBelow bucket rows z bounds (to + 1)
+none_more bucket rows z bounds to none here = λ k f l. elim (cases_lt k to) [
+  | inl h ↦ none k h l
+  | inr h ↦
+      let e : to ≡ k = omega (arith, f, h) in
+      subst (λ i. i < length bucket → IsNotBelow rows z bounds (get_or bucket i nothing_filed)) e here l
+]
+
+-- ---- the words once there is one row more
+-- what the number n of rows says of the groups where the last one is whole, and where it is not
+record IsWhole (size n : ℕ) : Type 0 where
+  next : (n - 1) / size + 1 ≡ n / size
+  old : (k : ℕ) → k / size < (n - 1) / size → k < n - 1
+  last : (k : ℕ) → k / size ≡ (n - 1) / size → n - size ≤ k
+
+record IsBroken (size n : ℕ) : Type 0 where
+  next : (n - 1) / size ≡ n / size
+  old : (k : ℕ) → k / size < (n - 1) / size → k < n - 1
+
+whole_eight : (n : ℕ) → 0 < n → n % 8 ≡ 0 → IsWhole 8 n
+whole_eight n l e = record { next = omega arith; old = λ k h. omega arith; last = λ k h. omega arith }
+
+whole_block : (n : ℕ) → 0 < n → n % 64 ≡ 0 → IsWhole 64 n
+whole_block n l e = record { next = omega arith; old = λ k h. omega arith; last = λ k h. omega arith }
+
+broken_eight : (n : ℕ) → 0 < n → n % 8 ≢ 0 → IsBroken 8 n
+broken_eight n l d = record { next = omega arith; old = λ k h. omega arith }
+
+broken_block : (n : ℕ) → 0 < n → n % 64 ≢ 0 → IsBroken 64 n
+broken_block n l d = record { next = omega arith; old = λ k h. omega arith }
+
+-- where the rows but the last have their words, so has each row of an old group
+module _ (size : ℕ) (words : List Word) (rows : List Filed) (some : 0 < length rows) (before : AreCommon size words (take (length rows - 1) rows)) where
+  count_before : length words ≡ (length rows - 1) / size
+  count_before = before.count ∙ ap (λ n. n / size) (omega (arith, length-take (length rows - 1) rows))
+
+  covers_old : ((k : ℕ) → k / size < (length rows - 1) / size → k < length rows - 1) → (k : ℕ) → k / size < length words → Covers (get_or words (k / size) no_word) (get_or rows k nothing_filed)
+  covers_old old k l =
+      let f : k < length rows - 1 = old k (subst (λ n. k / size < n) count_before l) in
+      subst (λ g. Covers (get_or words (k / size) no_word) g) (get_or-take (length rows - 1) rows k nothing_filed f)
+      (before.covers k (omega (arith, f, length-take (length rows - 1) rows)) l)
+
+  common_broken : IsBroken size (length rows) → AreCommon size words rows
+  common_broken h = record {
+    count = count_before ∙ h.next;
+    covers = λ k l inside. covers_old h.old k inside;
+  }
+
+  common_whole : (word : Word) → IsWhole size (length rows) → ((k : ℕ) → k < length (drop (length rows - size) rows) → Covers word (get_or (drop (length rows - size) rows) k nothing_filed)) → AreCommon size (words ++ word ∷ []) rows
+  common_whole word h covers = record {
+    count = length-append words (word ∷ []) ∙ ap (λ n. n + 1) count_before ∙ h.next;
+    covers = λ k l inside. elim (cases_lt (k / size) (length words)) [
+      | inl f ↦ subst (λ w. Covers w (get_or rows k nothing_filed)) (sym (get_or_append_left words (word ∷ []) no_word (k / size) f)) (covers_old h.old k f)
+      | inr f ↦
+          let here : length words ≡ k / size = at_end (k / size) (length words) (length (words ++ word ∷ [])) f inside (length-append words (word ∷ [])) in
+          let from : length rows - size ≤ k = h.last k (sym here ∙ count_before) in
+          let place : length rows - size + (k - (length rows - size)) ≡ k = omega (arith, from) in
+          subst (λ i. Covers (get_or (words ++ word ∷ []) i no_word) (get_or rows k nothing_filed)) here
+          (subst (λ w. Covers w (get_or rows k nothing_filed)) (sym (get_or-append_seam words word [] no_word))
+          (subst (λ g. Covers word g) (get_or-drop (length rows - size) rows (k - (length rows - size)) nothing_filed ∙ ap (λ i. get_or rows i nothing_filed) place)
+          (covers (k - (length rows - size)) (inside_drop k from l))))
+    ];
+  }
+    where
+      at_end : (q m n : ℕ) → m ≤ q → q < n → n ≡ m + 1 → m ≡ q
+      at_end q m n h l e = omega arith
+
+      inside_drop : (k : ℕ) → length rows - size ≤ k → k < length rows → k - (length rows - size) < length (drop (length rows - size) rows)
+      inside_drop k f l = omega (arith, f, l, length-drop (length rows - size) rows)
+
+pub common_added : (size : ℕ) (words : List Word) (rows : List Filed) (word : Word) → (size ≡ 8) ⊎ (size ≡ 64) → 0 < length rows → AreCommon size words (take (length rows - 1) rows) → length rows % size ≡ 0
+    → ((k : ℕ) → k < length (take (length rows - (length rows - size)) (drop (length rows - size) rows)) → Covers word (get_or (take (length rows - (length rows - size)) (drop (length rows - size) rows)) k nothing_filed)) → AreCommon size (words ++ word ∷ []) rows
+common_added size words rows word is some before e covers =
+    let all : take (length rows - (length rows - size)) (drop (length rows - size) rows) ≡ drop (length rows - size) rows = take_all (length rows - (length rows - size)) (drop (length rows - size) rows) (omega (arith, length-drop (length rows - size) rows)) in
+    common_whole size words rows some before word (whole is e) (subst (λ (l : List Filed). (k : ℕ) → k < length l → Covers word (get_or l k nothing_filed)) all covers)
+  where
+    whole : (size ≡ 8) ⊎ (size ≡ 64) → length rows % size ≡ 0 → IsWhole size (length rows)
+    whole (inl is) e = subst (λ s. IsWhole s (length rows)) (sym is) (whole_eight (length rows) some (subst (λ s. length rows % s ≡ 0) is e))
+    whole (inr is) e = subst (λ s. IsWhole s (length rows)) (sym is) (whole_block (length rows) some (subst (λ s. length rows % s ≡ 0) is e))
+
+pub common_kept : (size : ℕ) (words : List Word) (rows : List Filed) → (size ≡ 8) ⊎ (size ≡ 64) → 0 < length rows → AreCommon size words (take (length rows - 1) rows) → length rows % size ≢ 0 → AreCommon size words rows
+common_kept size words rows is some before d = common_broken size words rows some before (broken is d)
+  where
+    broken : (size ≡ 8) ⊎ (size ≡ 64) → length rows % size ≢ 0 → IsBroken size (length rows)
+    broken (inl is) d = subst (λ s. IsBroken s (length rows)) (sym is) (broken_eight (length rows) some (subst (λ s. length rows % s ≢ 0) is d))
+    broken (inr is) d = subst (λ s. IsBroken s (length rows)) (sym is) (broken_block (length rows) some (subst (λ s. length rows % s ≢ 0) is d))
+
+-- ---- one row more under one word
+pub covers_step : (rows : List Filed) (i size place : ℕ) (word : Word) → ((k : ℕ) → k < i → Covers word (get_or rows k nothing_filed))
+    → size ≡ min word.size (get_or rows i nothing_filed).size → place ≡ min word.place (get_or rows i nothing_filed).place
+    → (k : ℕ) → k < i + 1 → Covers (record { bits = bit_and word.bits (get_or rows i nothing_filed).bits; size = size; place = place }) (get_or rows k nothing_filed)
+covers_step rows i size place word before s p k l = elim (cases_lt k i) [
+  | inl h ↦
+      let c = before k h in
+      record {
+        bits = part_trans (bit_and word.bits (get_or rows i nothing_filed).bits) word.bits (get_or rows k nothing_filed).bits (and_part_first word.bits (get_or rows i nothing_filed).bits) c.bits;
+        size = at_most size word.size (get_or rows i nothing_filed).size (get_or rows k nothing_filed).size s c.size;
+        place = at_most place word.place (get_or rows i nothing_filed).place (get_or rows k nothing_filed).place p c.place;
+      }
+  | inr h ↦
+      let e : i ≡ k = omega (arith, l, h) in
+      subst (λ j. Covers (record { bits = bit_and word.bits (get_or rows i nothing_filed).bits; size = size; place = place }) (get_or rows j nothing_filed)) e (record {
+        bits = and_part_second word.bits (get_or rows i nothing_filed).bits;
+        size = omega (arith, s);
+        place = omega (arith, p);
+      })
+]
+  where
+    at_most : (a b d e : ℕ) → a ≡ min b d → b ≤ e → a ≤ e
+    at_most a b d e m l = omega arith
+
+-- ---- one row that is looked at
+pub not_admitted : (bucket : List Filed) (rows : List (List ℤ)) (z : List ℤ) (bounds : Bounds) (k : ℕ) (f : Filed) (word : Word) → AllByRecursion (IsMarked rows z bounds) bucket → k < length bucket
+    → f ≡ get_or bucket k nothing_filed → word ≡ word_of f → (Admits bounds word → IsTrue false) → IsNotBelow rows z bounds (get_or bucket k nothing_filed)
+not_admitted bucket rows z bounds k f word marked l e w out = λ before below.
+    let h = out (subst (λ (v : Word). Admits bounds v) (sym w) (subst (λ (g : Filed). Admits bounds (word_of g)) (sym e) ((filed_at (IsMarked rows z bounds) bucket k marked l).admitted below before))) in
+    absurd cc
+
+pub not_below : (bucket : List Filed) (rows : List (List ℤ)) (z row : List ℤ) (bounds : Bounds) (k : ℕ) (f : Filed) → f ≡ get_or bucket k nothing_filed → row ≡ get_or rows f.place [] → (row ⊑ z → IsTrue false)
+    → IsNotBelow rows z bounds (get_or bucket k nothing_filed)
+not_below bucket rows z row bounds k f e r out = λ before below.
+    let h = out (subst (λ (v : List ℤ). v ⊑ z) (sym r) (subst (λ (g : Filed). get_or rows g.place [] ⊑ z) (sym e) below)) in
+    absurd cc

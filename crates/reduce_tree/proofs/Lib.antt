@@ -2,7 +2,8 @@ pub mod Bits
 pub mod Buckets
 pub mod Filing
 pub mod Inserts
-pub mod Parts
 pub mod Pools
+pub mod Searches
 pub mod Signatures
+pub mod Tiers
 pub mod Trees

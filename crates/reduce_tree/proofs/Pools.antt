@@ -5,12 +5,17 @@ use Rattle.std.specs.List.{AllByRecursion}
 use Rattle.std.proofs.lemmas.List.{get_or_append_left, get_or-take, length-take}
 use Rattle.row_pool.specs.Rows.{PoolValue}
 use Rattle.reduce_tree.specs.declared.tree.Filed.{Filed}
-use Rattle.reduce_tree.specs.Items.{bucket_of}
+use Rattle.reduce_tree.specs.Items.{size_of, IsKeyOf}
 use Rattle.reduce_tree.specs.Signatures.{signature_of}
 use Rattle.reduce_tree.specs.Tree.{TreeValue, place_of, places_of, StandsAt, Fits}
 
 stands_same : (levels : ℕ) (rows other : List (List ℤ)) (f : Filed) → StandsAt levels rows f → f.place < length other → get_or other f.place [] ≡ get_or rows f.place [] → StandsAt levels other f
-stands_same levels rows other f s inside e = record { inside = inside; bucket = s.bucket ∙ ap bucket_of (sym e); bits = s.bits ∙ ap (λ r. signature_of levels r) (sym e) }
+stands_same levels rows other f s inside e = record {
+  inside = inside;
+  key = subst (λ r. IsKeyOf r f.bits f.key) (sym e) s.key;
+  size = s.size ∙ ap size_of (sym e);
+  bits = s.bits ∙ ap (λ r. signature_of levels r) (sym e);
+}
 
 all_grown : (levels : ℕ) (rows more : List (List ℤ)) (filed : List Filed) → AllByRecursion (StandsAt levels rows) filed → AllByRecursion (StandsAt levels (rows ++ more)) filed
 all_grown levels rows more [] h = tt

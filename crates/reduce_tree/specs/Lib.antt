@@ -1,7 +1,6 @@
 pub mod Bits
-pub mod Buckets
+pub mod Inside
 pub mod Items
 pub mod Laws
-pub mod Parts
 pub mod Signatures
 pub mod Tree

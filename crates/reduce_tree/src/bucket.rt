@@ -1,180 +1,163 @@
-//! A bucket: the places of rows that are filed alike, with their signatures in eights and blocks.
+//! A bucket: rows that are filed alike, with words that are true of groups of neighbours.
 
-ghost use Rattle.std.specs.Prelude.{◌≡◌, ◌↔◌, ◌+◌, ◌-◌, ◌*◌, ◌/◌, ◌<◌, ◌≤◌, ◌^◌, ◌++◌, ◌∷◌, ℕ, [], length, take, IsTrue, MatchOption, OnOk, OnErr, bit_and, vec_len, vec_capacity};
-ghost use Rattle.reduce_tree.specs.Buckets.{empty_bucket, with_common, AreMarked, HasNoneBelow, IsBelowAt};
+ghost use Rattle.std.specs.Prelude.{◌≡◌, ◌⊎◌, ◌%◌, ◌+◌, ◌-◌, ◌<◌, ◌≤◌, ◌^◌, ◌++◌, ◌∷◌, ℕ, [], length, take, drop, slice_index_or, MatchOption, OnOk, OnErr, IsTrue, ◌↔◌, vec_len, vec_capacity};
+ghost use Rattle.std.specs.List.{AllByRecursion};
+ghost use Rattle.reduce_tree.specs.Inside.Bounds.{Covers};
+ghost use Rattle.reduce_tree.specs.Inside.Buckets.{nothing_filed, AreCommon, IsRuledOut, IsMarked, AreNoneBelow, IsBelowAt};
 
+use crate::bounds::{Bounds, Word};
+use crate::tree::Filed;
 use int_vector::{Visits, below};
 use row_pool::{Pool, RowId};
 use std::alloc::{AllocError, Global};
 use std::marker::Model;
 
-/// Places of rows in the order in which they came.
+/// Filed rows in the order in which they came.
 ///
-/// `bits` has the signature of each. `eights` and `blocks` have a word for each 8 and each 64 neighbours, whose bits
-/// all of these have. So no row below z is among neighbours whose word has a bit outside the signature of z. After `pop`
-/// a word may lack bits that all its neighbours have: then a search may compare more rows, and finds one as before.
+/// `eights` and `blocks` have a word for each whole group of 8 and of 64 neighbours. A search passes over a group where
+/// its word rules out that a row of it is looked for. Most buckets are short, and have no word.
 #[derive(Drop)]
 pub struct Bucket {
-    places: Vec<u32>,
-    bits: Vec<u128>,
-    eights: Vec<u128>,
-    blocks: Vec<u128>,
+    rows: Vec<Filed>,
+    eights: Vec<Word>,
+    blocks: Vec<Word>,
 }
 
 impl Model for Bucket {
-    ghost use Rattle.reduce_tree.specs.Buckets.{BucketValue, IsBucket};
+    ghost use Rattle.std.specs.Prelude.{List};
+    ghost use Rattle.reduce_tree.specs.declared.tree.Filed.{Filed};
+    ghost use Rattle.reduce_tree.specs.Inside.Buckets.{IsBucket};
 
-    ghost Value = { BucketValue };
+    ghost Value = { List Filed };
 
-    ghost view = { λ b. record { places = b.places.items; bits = b.bits.items } };
+    ghost view = { λ b. b.rows.items };
 
-    ghost invariant = { λ b. IsBucket b.places.items b.bits.items b.eights.items b.blocks.items };
+    ghost invariant = { λ b. IsBucket b.rows.items b.eights.items b.blocks.items };
 }
 
 impl Bucket {
     /// A bucket without rows.
     pub fn new(alloc: Global) -> Bucket
-        ensures { result ≡ empty_bucket }
+        ensures { result ≡ [] }
     {
         Bucket {
-            places: Vec::new(alloc),
-            bits: Vec::new(alloc),
+            rows: Vec::new(alloc),
             eights: Vec::new(alloc),
             blocks: Vec::new(alloc),
         }
     }
 
-    /// Files one more place, with the signature of its row. After an error the bucket is as before.
-    pub fn push(&mut self, place: u32, bits: u128) -> Result<(), AllocError>
-        requires { length self.old.bits + 1 < 2 ^ 32 }
-        ensures places { OnOk result (self.new.places ≡ self.old.places ++ place ∷ []) }
-        ensures bits { OnOk result (self.new.bits ≡ self.old.bits ++ bits ∷ []) }
+    /// Files one row more. After an error the bucket is as before.
+    pub fn push(&mut self, filed: Filed) -> Result<(), AllocError>
+        requires { length self.old + 1 < 2 ^ 32 }
+        ensures ok { OnOk result (self.new ≡ self.old ++ filed ∷ []) }
         ensures err { OnErr result (self.new ≡ self.old) }
     {
-        self.places.reserve(1)?;
-        self.bits.reserve(1)?;
-        self.eights.reserve(1)?;
-        self.blocks.reserve(1)?;
-        let count = self.bits.len();
-        add_common(&mut self.eights, 8, count, bits);
-        add_common(&mut self.blocks, 64, count, bits);
-        self.places.push_reserved(place);
-        self.bits.push_reserved(bits);
+        let count = self.rows.len() + 1;
+        self.rows.reserve(1)?;
+        make_room(&mut self.eights, 8, count)?;
+        make_room(&mut self.blocks, 64, count)?;
+        self.rows.push_reserved(filed);
+        add_word(&mut self.eights, 8, &self.rows);
+        add_word(&mut self.blocks, 64, &self.rows);
         Ok(())
     }
 
-    /// Takes the last place away.
+    /// Takes the last row away.
     pub fn pop(&mut self)
-        requires { 0 < length self.old.places }
-        ensures places { self.new.places ≡ take (length self.old.places - 1) self.old.places }
-        ensures bits { self.new.bits ≡ take (length self.old.places - 1) self.old.bits }
+        requires { 0 < length self.old }
+        ensures { self.new ≡ take (length self.old - 1) self.old }
     {
-        let count = self.places.len() - 1;
-        self.places.truncate(count);
-        self.bits.truncate(count);
-        self.eights.truncate((count + 7) / 8);
-        self.blocks.truncate((count + 63) / 64);
+        let count = self.rows.len() - 1;
+        self.rows.truncate(count);
+        self.eights.truncate(count / 8);
+        self.blocks.truncate(count / 64);
     }
 
-    /// The place of a row below z. `outside` has the bits that z's signature lacks, of which a row below z has none.
+    /// The place of a row that is below z and stands before the end.
     ///
     /// Counts a visit for each row that is compared with z.
     pub fn find_below(
         &self,
         pool: &Pool,
         z: &[i64],
-        outside: u128,
+        bounds: &Bounds,
         visits: &mut Visits,
     ) -> Option<RowId>
-        requires marked { AreMarked self.now.places self.now.bits pool.now.rows z.now outside }
+        requires marked { AllByRecursion (IsMarked pool.now.rows z.now bounds.now) self.now }
         requires width { pool.now.width ≡ length z.now }
-        ensures { MatchOption result (HasNoneBelow self.now.places pool.now.rows z.now 0 (length self.now.places)) (λ id. IsBelowAt self.now.places pool.now.rows z.now id.0) }
+        ensures { MatchOption result (AreNoneBelow self.now pool.now.rows z.now bounds.now (length self.now)) (λ id. IsBelowAt self.now pool.now.rows z.now bounds.now id.0) }
     {
-        for block in 0..self.blocks.len() {
-            if !is_apart(self.blocks[block], outside) {
+        let count = self.rows.len();
+        let mut k = 0;
+        while k < count {
+            if k % 64 == 0 && rules_out(&self.blocks, k / 64, bounds) {
+                k += 64;
                 continue;
             }
-            if let Some(id) = self.find_in_block(block, pool, z, outside, visits) {
-                return Some(id);
-            }
-        }
-        None
-    }
-
-    /// The same among the rows of a block.
-    fn find_in_block(
-        &self,
-        block: usize,
-        pool: &Pool,
-        z: &[i64],
-        outside: u128,
-        visits: &mut Visits,
-    ) -> Option<RowId>
-        requires marked { AreMarked self.now.places self.now.bits pool.now.rows z.now outside }
-        requires width { pool.now.width ≡ length z.now }
-        requires block { 64 * block < length self.now.places }
-        ensures { MatchOption result (HasNoneBelow self.now.places pool.now.rows z.now (64 * block) (64 * block + 64)) (λ id. IsBelowAt self.now.places pool.now.rows z.now id.0) }
-    {
-        let count = self.eights.len();
-        let end = count.min(8 * block + 8);
-        for eight in 8 * block..end {
-            if !is_apart(self.eights[eight], outside) {
+            if k % 8 == 0 && rules_out(&self.eights, k / 8, bounds) {
+                k += 8;
                 continue;
             }
-            if let Some(id) = self.find_in_eight(eight, pool, z, outside, visits) {
-                return Some(id);
+            let filed = &self.rows[k];
+            if bounds.admit(&filed.word()) {
+                visits.add();
+                let id = RowId(filed.place);
+                if below(pool.row(id), z) {
+                    return Some(id);
+                }
             }
-        }
-        None
-    }
-
-    /// The same among the rows of an eight.
-    fn find_in_eight(
-        &self,
-        eight: usize,
-        pool: &Pool,
-        z: &[i64],
-        outside: u128,
-        visits: &mut Visits,
-    ) -> Option<RowId>
-        requires marked { AreMarked self.now.places self.now.bits pool.now.rows z.now outside }
-        requires width { pool.now.width ≡ length z.now }
-        requires eight { 8 * eight < length self.now.places }
-        ensures { MatchOption result (HasNoneBelow self.now.places pool.now.rows z.now (8 * eight) (8 * eight + 8)) (λ id. IsBelowAt self.now.places pool.now.rows z.now id.0) }
-    {
-        let count = self.bits.len();
-        let end = count.min(8 * eight + 8);
-        for k in 8 * eight..end {
-            if !is_apart(self.bits[k], outside) {
-                continue;
-            }
-            visits.add();
-            let id = RowId(self.places[k]);
-            if below(pool.row(id), z) {
-                return Some(id);
-            }
+            k += 1;
         }
         None
     }
 }
 
-/// Whether two sets of bits have none in common.
-fn is_apart(bits: u128, outside: u128) -> bool
-    ensures { IsTrue result ↔ (bit_and bits outside ≡ 0) }
+/// Whether there is a word for the group of this number, and it rules out that a row of it is looked for.
+fn rules_out(words: &[Word], group: usize, bounds: &Bounds) -> bool
+    ensures { IsTrue result ↔ IsRuledOut words.now group bounds.now }
 {
-    bits & outside == 0
+    group < words.len() && !bounds.admit(&words[group])
 }
 
-/// Keeps the words of common bits, each for `size` neighbours, where a signature comes as number `count`.
-fn add_common(words: &mut Vec<u128>, size: usize, count: usize, bits: u128)
-    requires room { vec_len words.old < vec_capacity words.old }
-    requires size { 0 < size }
-    requires count { vec_len words.old ≡ (count + (size - 1)) / size }
-    ensures { words.new.items ≡ with_common size count bits words.old.items }
+/// Makes room for one word more, where a group of `size` neighbours is whole once there are `count` rows.
+fn make_room(words: &mut Vec<Word>, size: usize, count: usize) -> Result<(), AllocError>
+    requires { 0 < size }
+    ensures same { words.new.items ≡ words.old.items }
+    ensures room { OnOk result (count % size ≡ 0 → vec_len words.new < vec_capacity words.new) }
 {
     if count % size == 0 {
-        words.push_reserved(bits);
-    } else {
-        words[count / size] &= bits;
+        words.reserve(1)?;
     }
+    Ok(())
+}
+
+/// Adds the word of the last group of `size` neighbours, where the last row makes it whole.
+fn add_word(words: &mut Vec<Word>, size: usize, rows: &[Filed])
+    requires size { (size ≡ 8) ⊎ (size ≡ 64) }
+    requires some { 0 < length rows.now }
+    requires room { length rows.now % size ≡ 0 → vec_len words.old < vec_capacity words.old }
+    requires before { AreCommon size words.old.items (take (length rows.now - 1) rows.now) }
+    ensures { AreCommon size words.new.items rows.now }
+{
+    if rows.len() % size == 0 {
+        words.push_reserved(common(&rows[rows.len() - size..]));
+    }
+}
+
+/// A word that is true of each of these rows.
+fn common(rows: &[Filed]) -> Word
+    ensures { (k : ℕ) → k < length rows.now → Covers result (slice_index_or rows.now k nothing_filed) }
+{
+    let mut word = Word {
+        bits: u128::MAX,
+        size: u32::MAX,
+        place: u32::MAX,
+    };
+    for filed in rows {
+        word.bits &= filed.bits;
+        word.size = word.size.min(filed.size);
+        word.place = word.place.min(filed.place);
+    }
+    word
 }

@@ -1,9 +1,20 @@
-//! Where a row is filed: in a part by the sign of its last entry, and there by its first entry that is not 0.
+//! Where a row is filed: in a part by the sign of its last entry, and there by the classes of its first items.
 //!
 //! An item is a column with a sign: number 2 c for entries of column c that are not below 0, and 2 c + 1 for those below.
+//! The class of an item is the number of its first mark in a signature. In rows of more than 64 entries some items share
+//! one, and a search looks at more rows than it need.
 
-ghost use Rattle.std.specs.Prelude.{◌≡◌, ◌+◌, ◌*◌, ◌<◌, ◌≤◌, length};
-ghost use Rattle.reduce_tree.specs.Items.{item_at, first_item, part_at, part_of, bucket_number, bucket_of};
+ghost use Rattle.std.specs.Prelude.{◌≡◌, ◌≢◌, ◌+◌, ◌*◌, ◌<◌, ◌≤◌, ℕ, pos, length, slice_index_or};
+ghost use Rattle.reduce_tree.specs.Items.{item_at, part_at, part_of, size_of, IsClassOf, IsKeyOf};
+
+/// A row's part, and the classes of its first three items: 127 for each that it does not have.
+#[derive(Clone, Copy)]
+pub struct Key {
+    pub part: u8,
+    pub first: u8,
+    pub second: u8,
+    pub third: u8,
+}
 
 /// The item of an entry of a column.
 pub fn item_at(column: usize, entry: i64) -> usize
@@ -14,24 +25,60 @@ pub fn item_at(column: usize, entry: i64) -> usize
     2 * column + usize::from(entry < 0)
 }
 
-/// The item of the first entry that is not 0, and for a zero row the number after all items, twice the width.
-fn first_item(row: &[i64]) -> usize
-    requires { length row.now ≤ 130 }
-    ensures value { result ≡ first_item row.now }
-    ensures most { result ≤ 2 * length row.now }
+/// The key of a row with this signature, for which each item has marks for `levels` thresholds.
+pub fn key_of(row: &[i64], levels: usize, bits: u128) -> Key
+    requires narrow { length row.now ≤ 130 }
+    requires levels { levels ≤ 16 }
+    ensures key { IsKeyOf row.now bits result }
+    ensures first { result.first < 128 }
+    ensures second { result.second < 128 }
+    ensures third { result.third < 128 }
 {
-    for column in 0..row.len() {
+    let first = first_from(row, 0);
+    let second = first_from(row, first + 1);
+    let third = first_from(row, second + 1);
+    Key {
+        part: part_of(row),
+        first: class_in(row, first, levels, bits),
+        second: class_in(row, second, levels, bits),
+        third: class_in(row, third, levels, bits),
+    }
+}
+
+/// The column of the first entry that is not 0 from a column on, or the number of columns where there is none.
+fn first_from(row: &[i64], from: usize) -> usize
+    requires { length row.now ≤ 130 }
+    ensures most { result ≤ length row.now }
+    ensures nonzero { result < length row.now → slice_index_or row.now result (pos 0) ≢ pos 0 }
+    ensures before { (j : ℕ) → from ≤ j → j < result → slice_index_or row.now j (pos 0) ≡ pos 0 }
+{
+    for column in from..row.len() {
         if row[column] != 0 {
-            return item_at(column, row[column]);
+            return column;
         }
     }
-    2 * row.len()
+    row.len()
+}
+
+/// The class of the item of a row's entry in a column, and 127 where there is no such entry.
+fn class_in(row: &[i64], column: usize, levels: usize, bits: u128) -> u8
+    requires narrow { length row.now ≤ 130 }
+    requires levels { levels ≤ 16 }
+    ensures class { IsClassOf bits result }
+    ensures most { result < 128 }
+{
+    if column < row.len() {
+        let class = item_at(column, row[column]) * levels % 128;
+        if (bits >> class) & 1 == 1 {
+            return class as u8;
+        }
+    }
+    127
 }
 
 /// The part of a row: 0, 1 or 2, where its last entry is 0, above 0 or below 0.
-pub fn part_of(row: &[i64]) -> usize
-    ensures value { result ≡ part_of row.now }
-    ensures most { result < 3 }
+pub fn part_of(row: &[i64]) -> u8
+    ensures { result ≡ part_of row.now }
 {
     if row.is_empty() {
         return 0;
@@ -40,9 +87,8 @@ pub fn part_of(row: &[i64]) -> usize
 }
 
 /// The part of the rows with this last entry.
-fn part_at(last: i64) -> usize
-    ensures value { result ≡ part_at last }
-    ensures most { result < 3 }
+fn part_at(last: i64) -> u8
+    ensures { result ≡ part_at last }
 {
     if last == 0 {
         0
@@ -53,31 +99,17 @@ fn part_at(last: i64) -> usize
     }
 }
 
-/// How many buckets there are for rows of a width: in each of three parts one for each item, and one more for the zero
-/// row, which only part 0 uses.
-pub fn bucket_count(width: usize) -> usize
-    requires { width ≤ 130 }
-    ensures { result ≡ 3 * (2 * width + 1) }
+/// The absolute value of a row's last entry, or the greatest number of 32 bits where it is above that.
+pub fn size_of(row: &[i64]) -> u32
+    ensures { result ≡ size_of row.now }
 {
-    3 * (2 * width + 1)
-}
-
-/// The number of the bucket of an item, or of the number after all items, in a part.
-pub fn bucket_number(width: usize, part: usize, item: usize) -> usize
-    requires width { width ≤ 130 }
-    requires part { part < 3 }
-    requires item { item ≤ 2 * width }
-    ensures value { result ≡ bucket_number width part item }
-    ensures inside { result < 3 * (2 * width + 1) }
-{
-    part * (2 * width + 1) + item
-}
-
-/// The number of the bucket of a row.
-pub fn bucket_of(row: &[i64]) -> usize
-    requires { length row.now ≤ 130 }
-    ensures value { result ≡ bucket_of row.now }
-    ensures inside { result < 3 * (2 * length row.now + 1) }
-{
-    bucket_number(row.len(), part_of(row), first_item(row))
+    if row.is_empty() {
+        return 0;
+    }
+    let size = row[row.len() - 1].unsigned_abs();
+    if size < u64::from(u32::MAX) {
+        size as u32
+    } else {
+        u32::MAX
+    }
 }

@@ -1,35 +1,51 @@
 //! The tree: where rows are filed, how one below a vector is found, and how the last rows are taken out again.
 
-ghost use Rattle.std.specs.Prelude.{◌≡◌, ◌⊎◌, ◌+◌, ◌-◌, ◌*◌, ◌<◌, ◌≤◌, ◌^◌, ◌++◌, ◌∷◌, ℕ, [], length, map, take, replicate, slice_index_or, IfOk, OnOk, OnErr, MatchOption};
+ghost use Rattle.std.specs.Prelude.{◌≡◌, ◌+◌, ◌<◌, ◌≤◌, ◌^◌, ◌++◌, ◌∷◌, [], length, take, slice_index_or, OnOk, OnErr, MatchOption};
 ghost use Rattle.std.specs.List.{Contains};
-ghost use Rattle.std.specs.Int.{bit_not, w128};
 ghost use Rattle.int_vector.specs.Vectors.{◌⊑◌};
 ghost use Rattle.row_pool.specs.Rows.{PoolValue};
-ghost use Rattle.reduce_tree.specs.Buckets.{empty_bucket};
-ghost use Rattle.reduce_tree.specs.Items.{bucket_of};
-ghost use Rattle.reduce_tree.specs.Signatures.{signature_of};
-ghost use Rattle.reduce_tree.specs.Parts.{AreAllMarked, HasNoneInPart, IsBelowIn};
+ghost use Rattle.reduce_tree.specs.Items.{size_of};
+ghost use Rattle.reduce_tree.specs.Inside.Bounds.{word_of};
 
-use crate::bucket::Bucket;
-use crate::items::{bucket_count, bucket_number, bucket_of, item_at, part_of};
+use crate::bounds::{Bounds, Word};
+use crate::index::Index;
+use crate::items::{Key, key_of, part_of, size_of};
 use crate::signature::signature;
 use int_vector::Visits;
 use row_pool::{Pool, RowId};
 use std::alloc::{AllocError, Global};
 use std::marker::Model;
 
-/// A place that was inserted, with the number of the bucket and the signature of its row.
+/// A place that was inserted, with what is filed of the row there.
 #[derive(Clone, Copy)]
 pub struct Filed {
     pub place: u32,
+    /// The number of the row's bucket.
     pub bucket: u32,
+    /// The size of the row's last entry.
+    pub size: u32,
+    pub key: Key,
+    /// The row's signature.
     pub bits: u128,
+}
+
+impl Filed {
+    /// What a search asks of the row.
+    pub fn word(&self) -> Word
+        ensures { result ≡ word_of self.now }
+    {
+        Word {
+            bits: self.bits,
+            size: self.size,
+            place: self.place,
+        }
+    }
 }
 
 /// Places of rows of a pool, filed so that one below a vector is found without a look at each row.
 ///
-/// The rows stay in the pool. A call is given a pool that the tree fits: at each place that was inserted it has a row
-/// with the bucket and the signature that are filed, as a pool has whose rows there are still the same.
+/// The rows stay in the pool. A call is given a pool that the tree fits: at each place that was inserted it has a row of
+/// which what is filed is true, as a pool has whose rows there are still the same.
 #[derive(Drop)]
 pub struct Tree {
     alloc: Global,
@@ -38,22 +54,23 @@ pub struct Tree {
     levels: u32,
     /// What was inserted, in order.
     filed: Vec<Filed>,
-    /// None until a row is inserted, then as many as `bucket_count` says.
-    buckets: Vec<Bucket>,
+    /// The same by keys.
+    index: Index,
 }
 
 impl Model for Tree {
-    ghost use Rattle.reduce_tree.specs.Tree.{TreeValue, IsTree};
+    ghost use Rattle.reduce_tree.specs.Tree.{TreeValue};
+    ghost use Rattle.reduce_tree.specs.Inside.Filing.{IsTree};
 
     ghost Value = { TreeValue };
 
     ghost view = { λ t. record { width = t.width; levels = t.levels; filed = t.filed.items } };
 
-    ghost invariant = { λ t. IsTree t.width t.levels t.filed.items t.buckets.items };
+    ghost invariant = { λ t. IsTree t.width t.levels t.filed.items t.index };
 }
 
 impl Tree {
-    ghost use Rattle.reduce_tree.specs.Tree.{Fits, places_of, AreNotBelow};
+    ghost use Rattle.reduce_tree.specs.Tree.{Fits, places_of, AreNotBelow, AreNotBelowBefore};
 
     /// A tree without rows, for rows of `width` entries.
     pub fn new(alloc: Global, width: u32) -> Tree
@@ -67,7 +84,7 @@ impl Tree {
             // As many marks for each of the `2 * width` items as 128 bits have room for.
             levels: (64 / width.max(1)).clamp(1, 16),
             filed: Vec::new(alloc),
-            buckets: Vec::new(alloc),
+            index: Index::new(alloc),
         }
     }
 
@@ -91,15 +108,13 @@ impl Tree {
         if self.filed.len() >= u32::MAX as usize {
             return Err(AllocError);
         }
-        make_buckets(
-            self.alloc,
-            bucket_count(self.width as usize),
-            &mut self.buckets,
-        )?;
+        let row = pool.row(id);
+        let bits = signature(row, self.levels as usize);
+        let key = key_of(row, self.levels as usize, bits);
+        let bucket = self.index.bucket_for(self.alloc, &key)?;
         self.filed.reserve(1)?;
-        let filed = file(pool.row(id), id.0, self.levels as usize);
-        let bucket = &mut self.buckets[filed.bucket as usize];
-        bucket.push(filed.place, filed.bits)?;
+        let filed = file(row, id.0, bucket, key, bits);
+        self.index.buckets[bucket as usize].push(filed)?;
         self.filed.push_reserved(filed);
         Ok(())
     }
@@ -112,19 +127,40 @@ impl Tree {
         requires width { length z.now ≡ pool.now.width }
         ensures { MatchOption result (AreNotBelow (places_of self.now) pool.now.rows z.now) (λ id. Contains (places_of self.now) id.0 × (slice_index_or pool.now.rows id.0 [] ⊑ z.now)) }
     {
-        if self.buckets.is_empty() {
-            return None;
-        }
-        let outside = !signature(z, self.levels as usize);
+        self.find_below_before(pool, z, pool.len(), visits)
+    }
+
+    /// The same among the inserted rows that stand before the place `end`: the place of one that is below z, and `None`
+    /// exactly where none of those is.
+    pub fn find_below_before(
+        &self,
+        pool: &Pool,
+        z: &[i64],
+        end: u32,
+        visits: &mut Visits,
+    ) -> Option<RowId>
+        requires fits { Fits self.now pool.now }
+        requires width { length z.now ≡ pool.now.width }
+        ensures { MatchOption result (AreNotBelowBefore end (places_of self.now) pool.now.rows z.now) (λ id. Contains (places_of self.now) id.0 × (id.0 < end) × (slice_index_or pool.now.rows id.0 [] ⊑ z.now)) }
+    {
+        let bits = signature(z, self.levels as usize);
+        let bounds = Bounds {
+            // Each row has class 127.
+            classes: bits | 1_u128 << 127,
+            outside: !bits,
+            size: size_of(z),
+            end,
+        };
         // A row below z has the last entry 0, or one with the sign of z's.
-        if let Some(id) = find_in_part(&self.buckets, 0, pool, z, outside, visits) {
+        if let Some(id) = self.index.find_below(0, pool, z, &bounds, visits) {
             return Some(id);
         }
         let part = part_of(z);
         if part == 0 {
             return None;
         }
-        find_in_part(&self.buckets, part, pool, z, outside, visits)
+        self.index
+            .find_below(u32::from(part), pool, z, &bounds, visits)
     }
 
     /// Keeps the first `len` places. The tree still fits each pool that it fitted.
@@ -138,77 +174,25 @@ impl Tree {
             let Some(filed) = self.filed.pop() else {
                 return;
             };
-            let bucket = &mut self.buckets[filed.bucket as usize];
+            let bucket = &mut self.index.buckets[filed.bucket as usize];
             bucket.pop();
         }
     }
 }
 
-/// A place with what the search needs of the row there.
-fn file(row: &[i64], place: u32, levels: usize) -> Filed
-    requires narrow { length row.now ≤ 130 }
-    requires levels { levels ≤ 16 }
+/// A place with what is filed of the row there.
+fn file(row: &[i64], place: u32, bucket: u32, key: Key, bits: u128) -> Filed
     ensures place { result.place ≡ place }
-    ensures bucket { result.bucket ≡ bucket_of row.now }
-    ensures bits { result.bits ≡ signature_of levels row.now }
-    ensures inside { result.bucket < 3 * (2 * length row.now + 1) }
+    ensures bucket { result.bucket ≡ bucket }
+    ensures key { result.key ≡ key }
+    ensures size { result.size ≡ size_of row.now }
+    ensures bits { result.bits ≡ bits }
 {
     Filed {
         place,
-        bucket: bucket_of(row) as u32,
-        bits: signature(row, levels),
+        bucket,
+        size: size_of(row),
+        key,
+        bits,
     }
-}
-
-/// Makes the buckets, unless they are there.
-fn make_buckets(alloc: Global, count: usize, buckets: &mut Vec<Bucket>) -> Result<(), AllocError>
-    requires { (length buckets.old.items ≡ 0) ⊎ (length buckets.old.items ≡ count) }
-    ensures kept { (buckets.new.items ≡ buckets.old.items) ⊎ ((length buckets.old.items ≡ 0) × (buckets.new.items ≡ replicate count empty_bucket)) }
-    ensures count { OnOk result (length buckets.new.items ≡ count) }
-{
-    if buckets.is_empty() {
-        *buckets = empty_buckets(alloc, count)?;
-    }
-    Ok(())
-}
-
-/// So many buckets without rows.
-fn empty_buckets(alloc: Global, count: usize) -> Result<Vec<Bucket>, AllocError>
-    ensures { IfOk result (λ buckets. buckets.items ≡ replicate count empty_bucket) }
-{
-    let mut buckets = Vec::with_capacity(alloc, count)?;
-    for _ in 0..count {
-        buckets.push_reserved(Bucket::new(alloc));
-    }
-    Ok(buckets)
-}
-
-/// The place of a row of a part that is below z. `outside` has the bits that z's signature lacks.
-fn find_in_part(
-    buckets: &[Bucket],
-    part: usize,
-    pool: &Pool,
-    z: &[i64],
-    outside: u128,
-    visits: &mut Visits,
-) -> Option<RowId>
-    requires part { part < 3 }
-    requires narrow { length z.now ≤ 130 }
-    requires width { pool.now.width ≡ length z.now }
-    requires made { length buckets.now ≡ 3 * (2 * length z.now + 1) }
-    requires marked { AreAllMarked buckets.now pool.now.rows z.now outside }
-    ensures { MatchOption result (HasNoneInPart buckets.now pool.now.rows z.now part) (λ id. IsBelowIn buckets.now pool.now.rows z.now id.0) }
-{
-    for column in 0..z.len() {
-        if z[column] == 0 {
-            continue;
-        }
-        let item = item_at(column, z[column]);
-        let bucket = &buckets[bucket_number(z.len(), part, item)];
-        if let Some(id) = bucket.find_below(pool, z, outside, visits) {
-            return Some(id);
-        }
-    }
-    let bucket = &buckets[bucket_number(z.len(), part, 2 * z.len())];
-    bucket.find_below(pool, z, outside, visits)
 }

@@ -1,57 +1,13 @@
--- A file that is begun and appended to piece by piece: it holds a front of the text, and at the end the whole.
-use Rattle.std.proofs.Common.{◌≡◌, ◌<◌, ◌≤◌, ◌+◌, ◌-◌, ◌*◌, zero, suc, arith, subst, inl, inr, ℕ, List, [], ◌++◌, length, take, drop, Option, None, Some, refl, sym, ap, ap₂, ◌∙◌, append_assoc, append-nil, SFits, w64, to_z, of_z, to_z-of_z}
+-- A file that is begun and appended to line by line: its rows' lines, and its head line.
+use Rattle.std.proofs.Common.{◌≡◌, ◌<◌, ◌≤◌, ◌+◌, ◌-◌, ◌*◌, zero, suc, arith, subst, ℕ, List, [], ◌++◌, take, drop, Option, sym, ap, ap₂, ◌∙◌, SFits, w64, to_z, of_z, to_z-of_z}
 use Rattle.std.specs.Prelude.{ℤ, pos, ◌∷◌}
 use Rattle.std.specs.Option.{option_map}
 use Rattle.mat_files.specs.Texts.{head_of, line_of}
 use Rattle.mat_files.specs.Printed.{lines_of, text_of}
 use Rattle.mat_files.specs.Cells.{Matrix}
-use Rattle.std.specs.FinMap.{insert}
-use Rattle.std.proofs.lemmas.List.{take_at, take-append-drop}
-use Rattle.outside.specs.Files.{Files, begun, appended, MayAppend}
-use Rattle.outside.proofs.ShelfLemmas.{bytes_of-insert, insert-insert}
-use Rattle.solution_files.specs.Outputs.{written, MayWrite}
-use Rattle.solution_files.specs.Steps.{IsPartWritten}
-
-appended-written : (files : Files) (name front piece : List ℕ) → appended name piece (written name front files) ≡ written name (front ++ piece) files
-appended-written files name front piece =
-    ap (λ bytes. insert (insert files name front) name (bytes ++ piece)) (bytes_of-insert files name front) ∙ insert-insert files name front (front ++ piece)
-
-appended-held : (old : Option Files) (name front piece : List ℕ) → option_map (appended name piece) (option_map (written name front) old) ≡ option_map (written name (front ++ piece)) old
-appended-held None name front piece = refl
-appended-held (Some files) name front piece = ap Some (appended-written files name front piece)
-
-pub part_begun : (name text : List ℕ) (old new : Option Files) → new ≡ option_map (begun name) old → IsPartWritten name text text old new
-part_begun name text old new begins = record { front = []; held = begins; whole = refl }
-
-pub part_more : (name text piece rest : List ℕ) (old mid new : Option Files) → IsPartWritten name text (piece ++ rest) old mid → new ≡ option_map (appended name piece) mid → IsPartWritten name text rest old new
-part_more name text piece rest old mid new part more = record {
-  front = part.front ++ piece;
-  held = more ∙ ap (option_map (appended name piece)) part.held ∙ appended-held old name part.front piece;
-  whole = append_assoc part.front piece rest ∙ part.whole;
-}
-
-pub part_whole : (name text : List ℕ) (old new : Option Files) → IsPartWritten name text [] old new → new ≡ option_map (written name text) old
-part_whole name text old new part = part.held ∙ ap (λ front. option_map (written name front) old) (sym (append-nil part.front) ∙ part.whole)
-
--- where the writing stops, a prefix stands
-pub part_stands : (name text rest : List ℕ) (old new : Option Files) → IsPartWritten name text rest old new → MayWrite name text old new
-part_stands name text rest old new part =
-    inr (length part.front, part.held ∙ ap (λ front. option_map (written name front) old) (sym (take_at part.front rest (length part.front) refl) ∙ ap (take (length part.front)) part.whole))
-
--- an append that is refused leaves a prefix too
-pub part_refused : (name text piece rest : List ℕ) (old mid new : Option Files) → IsPartWritten name text (piece ++ rest) old mid → MayAppend name piece mid new → MayWrite name text old new
-part_refused name text piece rest old mid new part (inl same) =
-    part_stands name text (piece ++ rest) old new (record { front = part.front; held = same ∙ part.held; whole = part.whole })
-part_refused name text piece rest old mid new part (inr more) =
-    part_stands name text (drop more.0 piece ++ rest) old new
-    (part_more name text (take more.0 piece) (drop more.0 piece ++ rest) old mid new
-    (record {
-      front = part.front;
-      held = part.held;
-      whole =
-          ap (λ u. part.front ++ u) (sym (append_assoc (take more.0 piece) (drop more.0 piece) rest) ∙ ap (λ u. u ++ rest) (take-append-drop more.0 piece)) ∙ part.whole;
-    })
-    more.1)
+use Rattle.outside.specs.Files.{Files, begun, appended, MayAppend, written, MayWrite}
+use Rattle.outside.specs.Inside.Writing.{IsPartWritten}
+use Rattle.outside.proofs.Writing.{part_begun, part_more, part_whole, part_refused}
 
 -- ---- the lines of the rows
 pub row_fits : (rows i n len : ℕ) → i < rows → len ≡ (rows - i) * n → n ≤ len

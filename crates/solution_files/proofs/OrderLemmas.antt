@@ -1,12 +1,12 @@
 -- Rows behind references that are sorted and kept once are the ascending list of the same rows, and a binary search finds each.
-use Rattle.std.proofs.Common.{◌≡◌, inl, inr, ℕ, zero, suc, ◌<◌, ◌≤◌, ◌+◌, List, [], ◌∷◌, map, length, get_or, refl, sym, ap, subst, ◌∙◌, Bool, true, false, arith, Ordering, Less, Equal, Greater, Result, Ok, Err, is_ok}
+use Rattle.std.proofs.Common.{◌≡◌, inl, inr, ℕ, zero, suc, ◌<◌, ◌≤◌, ◌+◌, List, [], ◌∷◌, length, get_or, refl, sym, ap, subst, ◌∙◌, Bool, true, false, arith, Ordering, Less, Greater, Result, Ok, Err, is_ok}
 use Rattle.std.specs.Prelude.{ℤ, ◌↔◌, IsTrue}
 use Rattle.std.specs.Borrow.{Bor}
-use Rattle.std.specs.List.{Contains, AllByRecursion, dedup, Any}
+use Rattle.std.specs.List.{Contains, dedup, Any}
 use Rattle.std.specs.List.Sorted.{IsPermutation, IsSorted, IsSortedBy, IsStrictlySortedBy, IsBinarySearchResult, IsSearchInRange, IsPartitionPoint}
 use Rattle.std.specs.Ordering.{int_cmp, int_eq, is_lt, ordering_reverse}
-use Rattle.std.specs.Cmp.{IsTotalOrder, int_cmp_total, on_total, int_eq_equiv, on_equiv}
-use Rattle.std.specs.Cmp.Lexicographic.{pointwise, lists_total, lists_equiv, lists_ties}
+use Rattle.std.specs.Cmp.{IsTotalOrder, on_total, int_eq_equiv, on_equiv}
+use Rattle.std.specs.Cmp.Lexicographic.{pointwise, lists_equiv, lists_ties}
 use Rattle.std.specs.Cmp.Rules.{signed_items}
 use Rattle.std.proofs.lemmas.Bool.{cases_lt}
 use Rattle.std.proofs.lemmas.List.{length-map, get_or-map}

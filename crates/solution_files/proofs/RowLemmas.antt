@@ -1,9 +1,8 @@
 -- The rows of a kind in the user's columns, and the rows without those whose negative is a row too.
-use Rattle.std.proofs.Common.{◌≡◌, inl, inr, ℕ, ◌<◌, ◌≤◌, ◌+◌, ◌*◌, List, [], ◌∷◌, ◌++◌, map, length, take, drop, get_or, refl, sym, ap, subst, ◌∙◌, Bool, true, false, not, cond, ◌&&◌, arith, append-nil, append_assoc, length-append, zero, suc}
-use Rattle.std.specs.Prelude.{ℤ, pos, negsuc, IsTrue, ◌↔◌, int_lt, neg_ℤ}
+use Rattle.std.proofs.Common.{◌≡◌, ℕ, ◌<◌, ◌≤◌, ◌+◌, ◌*◌, List, [], ◌∷◌, ◌++◌, length, take, drop, get_or, refl, sym, ap, subst, ◌∙◌, Bool, true, false, not, ◌&&◌, arith, append-nil, append_assoc, length-append, zero, suc}
+use Rattle.std.specs.Prelude.{ℤ, pos, negsuc, int_lt, neg_ℤ}
 use Rattle.std.specs.Borrow.{Bor}
-use Rattle.std.specs.List.{Contains, AllByRecursion, filter, list_any, flat_map, Any}
-use Rattle.std.specs.List.Sorted.{IsStrictlySortedBy}
+use Rattle.std.specs.List.{Contains, AllByRecursion, filter, flat_map, Any}
 use Rattle.std.specs.Ordering.{int_eq}
 use Rattle.std.specs.Cmp.{signed_Decides}
 use Rattle.std.specs.Cmp.Rules.{signed_items}

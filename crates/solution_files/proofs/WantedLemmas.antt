@@ -1,12 +1,11 @@
 -- What is selected from all minimal solutions is what is wanted.
-use Rattle.std.proofs.Common.{◌≡◌, ℕ, List, length, refl, sym, subst, ◌∙◌}
-use Rattle.std.specs.Prelude.{ℤ, IsTrue, ◌↔◌}
-use Rattle.std.specs.List.{Contains}
+use Rattle.std.proofs.Common.{◌≡◌, ℕ, List, length, refl, subst}
+use Rattle.std.specs.Prelude.{ℤ}
 use Rattle.lift_core.specs.declared.Tool.{Tool}
 use Rattle.lift_core.specs.declared.Tool.TheVariants.{Graver, Hilbert, Zsolve}
-use Rattle.lift_core.specs.Systems.{ToolSystem, LinearSystem}
+use Rattle.lift_core.specs.Systems.{LinearSystem}
 use Rattle.lift_core.specs.Lists.{IsListOf}
-use Rattle.int_vector.specs.Vectors.{lex_cmp, leads_negative, negated}
+use Rattle.int_vector.specs.Vectors.{lex_cmp, negated}
 use Rattle.lift_core.specs.Ends.{IsSolutionList}
 use Rattle.lift_core.specs.Columns.{Kind, Every}
 use Rattle.lift_core.specs.Inside.Written.{IsWrittenOf, IsWanted, IsWantedGraver}

@@ -2,13 +2,12 @@
 use Rattle.std.specs.Prelude.{◌≡◌, ℕ, ℤ, List, length}
 use Rattle.std.specs.List.{AllByRecursion}
 use Rattle.mat_files.specs.Printed.{text_of}
-use Rattle.lift_core.specs.declared.Tool.{Tool}
-use Rattle.lift_core.specs.declared.Tool.TheVariants.{Graver, Hilbert, Zsolve}
-use Rattle.lift_core.specs.Systems.{ToolSystem, LinearSystem}
+use Rattle.lift_core.specs.declared.Tool.TheVariants.{Graver}
+use Rattle.lift_core.specs.Systems.{ToolSystem}
 use Rattle.lift_core.specs.Ends.{IsSolutionList}
 use Rattle.lift_core.specs.Inside.Written.{IsWanted, IsWantedGraver}
 use Rattle.solution_files.specs.declared.selection.Kind.{Kind}
-use Rattle.solution_files.specs.declared.selection.Kind.TheVariants.{All, Hom, Inhom}
+use Rattle.solution_files.specs.declared.selection.Kind.TheVariants.{All}
 use Rattle.solution_files.specs.Outputs.{kind_of, IsSelected, grid_of, text_of_rows}
 
 -- the finished rows are the minimal solutions of all equations

@@ -1,9 +1,7 @@
 -- What is written: which rows, the grid that has them, its text, and the files behind the writing.
-use Rattle.std.specs.Prelude.{◌≡◌, ◌⊎◌, ℕ, ℤ, List, [], ◌++◌, length, take, Option, IsTrue}
-use Rattle.std.specs.Option.{option_map}
+use Rattle.std.specs.Prelude.{◌≡◌, ℕ, ℤ, List, ◌++◌, length, take, IsTrue}
 use Rattle.std.specs.List.{Contains, AllByRecursion, flat_map}
-use Rattle.std.specs.FinMap.{insert}
-use Rattle.outside.specs.Files.{Files}
+pub use Rattle.outside.specs.Files.{written, MayWrite}
 use Rattle.mat_files.specs.Cells.{Matrix}
 use Rattle.mat_files.specs.Texts.{head_of, line_of}
 use Rattle.lift_core.specs.declared.Tool.{Tool}
@@ -54,11 +52,3 @@ pub record IsSelection (system : ToolSystem) (finished : List (List ℤ)) (kind 
 -- the text of rows of n entries: the two counts, and a line for each row
 abbrev pub text_of_rows : ℕ → List (List ℤ) → List ℕ
 text_of_rows n rows = head_of (length rows) n ++ flat_map line_of rows
-
--- the file has these bytes, and all others are as before
-abbrev pub written : List ℕ → List ℕ → Files → Files
-written name text files = insert files name text
-
--- a refused writing leaves the file as before, or with a prefix of the text, and all others as before
-abbrev pub MayWrite : List ℕ → List ℕ → Option Files → Option Files → Type 0
-MayWrite name text old new = (new ≡ old) ⊎ ((k : ℕ) × (new ≡ option_map (written name (take k text)) old))

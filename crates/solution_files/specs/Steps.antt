@@ -1,17 +1,14 @@
--- The steps from the finished rows to the selected ones, and from a file that is begun to one that is written.
-use Rattle.std.specs.Prelude.{◌≡◌, ◌↔◌, ◌≤◌, ◌&&◌, ℕ, ℤ, pos, List, [], ◌++◌, Bool, true, not, Option, map, length, take, nat_abs}
-use Rattle.std.specs.Option.{option_map}
+-- The steps from the finished rows to the selected ones.
+use Rattle.std.specs.Prelude.{◌≡◌, ◌↔◌, ◌≤◌, ◌&&◌, ℕ, ℤ, pos, List, Bool, true, not, map, length, take}
 use Rattle.std.specs.Borrow.{Bor}
 use Rattle.std.specs.List.{Contains, AllByRecursion, filter, list_any}
 use Rattle.std.specs.List.Sorted.{IsStrictlySortedBy}
 use Rattle.std.specs.Ordering.{int_eq}
 use Rattle.std.specs.Cmp.Lexicographic.{pointwise}
-use Rattle.outside.specs.Files.{Files}
 use Rattle.int_vector.specs.Range.{InRange}
 use Rattle.lift_core.specs.Stages.{last}
 use Rattle.int_vector.specs.Vectors.{lex_cmp, leads_negative, negated}
 use Rattle.lift_core.specs.Columns.{Kind, Homogeneous, Inhomogeneous, Every}
-use Rattle.solution_files.specs.Outputs.{written}
 
 -- the rows behind references
 abbrev pub rows_behind : List (Bor (List ℤ)) → List (List ℤ)
@@ -48,9 +45,3 @@ is_left_out rows x = leads_negative x && is_among rows (negated x)
 -- the rows but those
 abbrev pub without_negatives : List (List ℤ) → List (List ℤ)
 without_negatives rows = filter (λ x. not (is_left_out rows x)) rows
-
--- the file has a front of the text, and the rest of it is to come
-pub record IsPartWritten (name text rest : List ℕ) (old new : Option Files) : Type 0 where
-  pub front : List ℕ
-  pub held : new ≡ option_map (written name front) old
-  pub whole : front ++ rest ≡ text

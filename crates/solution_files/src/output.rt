@@ -1,12 +1,12 @@
-// Writing a grid into a file, line by line.
+//! Writing a grid into a file, line by line.
+
 ghost use Rattle.std.specs.Prelude.{◌≡◌, ℕ, List, Option, OnOk, OnErr};
 ghost use Rattle.std.specs.Option.{option_map};
 ghost use Rattle.outside.specs.Causes.{HasCause};
-ghost use Rattle.outside.specs.Files.{Files, appended, MayAppend};
+ghost use Rattle.outside.specs.Files.{Files, appended, MayAppend, written, MayWrite};
+ghost use Rattle.outside.specs.Inside.Writing.{IsPartWritten};
 ghost use Rattle.mat_files.specs.Texts.{line_of};
 ghost use Rattle.mat_files.specs.Printed.{lines_of, text_of};
-ghost use Rattle.solution_files.specs.Outputs.{written, MayWrite};
-ghost use Rattle.solution_files.specs.Steps.{IsPartWritten};
 
 use mat_files::{Grid, print_line};
 use outside::{Folder, PutEnd};

@@ -70,8 +70,8 @@ fn rows_of_kind<'a>(
     Ok(rows)
 }
 
-// Sorts the rows, and keeps each once: two finished rows may be the same in the user's columns.
-fn put_in_order(rows: &mut Vec<&[i64]>)
+/// Sorts the rows in lexicographic order, and keeps each once.
+pub fn put_in_order(rows: &mut Vec<&[i64]>)
     ensures { IsOrdered (rows_behind rows.old.items) (rows_behind rows.new.items) }
 {
     rows.sort_unstable();
@@ -159,8 +159,11 @@ fn selected_rows<'a>(
     }
 }
 
-// The grid of the rows.
-fn lay_out(alloc: Global, columns: u32, rows: &[&[i64]]) -> Result<Grid, AllocError>
+/// The grid of the rows, each of so many columns.
+///
+/// # Errors
+/// Memory ran out.
+pub fn lay_out(alloc: Global, columns: u32, rows: &[&[i64]]) -> Result<Grid, AllocError>
     requires some { 1 ≤ columns }
     requires few { length rows.now < 2 ^ 32 }
     requires shape { AreRows columns (rows_behind rows.now) }

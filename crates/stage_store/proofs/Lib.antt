@@ -20,3 +20,5 @@ pub mod Starting
 pub mod Ordered
 pub mod Gains
 pub mod Skipped
+pub mod NumberedSums
+pub mod Sorting

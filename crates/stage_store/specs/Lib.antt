@@ -18,3 +18,5 @@ pub mod UnitVectors
 pub mod Lifted
 pub mod Published
 pub mod Found
+pub mod Numbered
+pub mod Sorting

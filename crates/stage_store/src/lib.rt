@@ -7,6 +7,10 @@ mod gathering;
 mod growing;
 pub mod laws;
 mod lifting;
+mod numbered;
+mod order;
 mod stage;
 
+pub use numbered::Hints;
+pub use order::{in_order, put_in_order};
 pub use stage::{Closed, Finish, LiftEnd, Lifted, Next, PublishEnd, Stage};

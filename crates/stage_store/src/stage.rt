@@ -15,6 +15,7 @@ ghost use Rattle.lift_core.specs.Ends.{solution_cmp};
 ghost use Rattle.row_pool.specs.Rows.{InRange};
 ghost use Rattle.stage_store.specs.Stage.{StageValue, IsStage, IsDefined, used_of};
 ghost use Rattle.stage_store.specs.Classes.{pairs_of, IsPairAt};
+ghost use Rattle.stage_store.specs.Numbered.{GainsNumbered};
 ghost use Rattle.stage_store.specs.Least.{IsLeastAbove};
 ghost use Rattle.stage_store.specs.Answers.{IsNext, HasWaitingNorm};
 ghost use Rattle.stage_store.specs.Lifted.{StartsOr, IsFirst, IsLift, IsLiftedDefined};
@@ -24,6 +25,7 @@ use crate::class::{Class, count_pairs, find_pair, lesser, pair_norm_above};
 use crate::gathering::{Found, take_norm};
 use crate::growing::{add_class, class_of, list_rows, make_room, merged_rows, waits_up_to};
 use crate::lifting::{extended, kept_solutions, units};
+use crate::numbered::{Hints, take_range};
 use int_vector::{Visits, add_into, conformal, norm};
 use lift_core::{IntRow, System};
 use reduce_tree::Tree;
@@ -369,6 +371,30 @@ impl Stage {
         }
         add_into(first, second, out);
         true
+    }
+
+    /// The irreducible sums of the pairs of a norm with the numbers from `first` on, `count` of them, come to the rows.
+    /// `sum` is room for a sum. No memory is taken.
+    pub fn gather(
+        &self,
+        norm: u64,
+        first: u64,
+        count: u64,
+        _hints: &mut Hints,
+        sum: &mut [i64],
+        rows: &mut Pool,
+    )
+        requires small { norm ≤ 9223372036854775807 }
+        requires inside { first + count ≤ length (pairs_of self.now.listed norm) }
+        requires sum { length sum.old ≡ width self.now.system.equations + 1 }
+        requires width { rows.old.width ≡ width self.now.system.equations + 1 }
+        requires room { count ≤ rows.old.spare }
+        ensures sum { length sum.new ≡ length sum.old }
+        ensures width { rows.new.width ≡ rows.old.width }
+        ensures kept { length rows.old.rows ≤ length rows.new.rows }
+        ensures gains { GainsNumbered self.now norm first (first + count) rows.old.rows rows.new.rows }
+    {
+        take_range(self, norm, first, count, sum, rows);
     }
 
     /// The irreducible sums of the next norm.

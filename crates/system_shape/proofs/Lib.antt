@@ -6,4 +6,5 @@ pub mod RowCells
 pub mod UserRows
 pub mod Building
 pub mod Examples
+pub mod Counted
 pub mod Answered

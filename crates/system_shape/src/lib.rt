@@ -11,7 +11,9 @@ mod files;
 mod first_fault;
 pub mod laws;
 mod shaping;
+mod table_matrix;
 
 pub use faults::{ShapeEnd, ShapeFault};
 pub use files::Input;
 pub use shaping::shape;
+pub use table_matrix::tables;

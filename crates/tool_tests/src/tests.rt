@@ -1,21 +1,53 @@
+//! Runs of the top call over a folder in memory: what they end in, what they put out, and which files they leave.
+
 use lift_core::Tool;
 use outside::{MemFolder, MemSink, Words};
 use std::alloc::Global;
 use std::test::Fail;
-use tool_top::{End, Part, Status, run_tool};
+use tool_top::run_tool;
 
 // A project's file, by its ending, and its text.
 type Text = (&'static str, &'static str);
 
-// A run: the tool, its input files, the end, the output files, and what standard output gains.
+// A run: the tool, its words, its input files, the calls of the folder and of standard output that fail, and what is to
+// come: the status with its end, the output files, and what standard output gains.
 #[derive(Clone, Copy)]
 struct Case {
+    tool: Tool,
+    words: &'static [&'static str],
+    input: &'static [Text],
+    failing: (&'static [u64], &'static [u64]),
+    end: &'static str,
+    output: &'static [Text],
+    out: &'static str,
+}
+
+// A run of a project that ends well.
+const fn done(
     tool: Tool,
     input: &'static [Text],
     end: &'static str,
     output: &'static [Text],
     out: &'static str,
+) -> Case {
+    Case {
+        tool,
+        words: &["P"],
+        input,
+        failing: (&[], &[]),
+        end,
+        output,
+        out,
+    }
 }
+
+// A run of a project that ends before anything is written.
+const fn refused(tool: Tool, input: &'static [Text], end: &'static str) -> Case {
+    done(tool, input, end, &[], "")
+}
+
+// The endings of all output files.
+const OUTPUTS: [&str; 4] = [".gra", ".hil", ".zhom", ".zinhom"];
 
 // The name of the project's file with this ending.
 fn file(alloc: Global, ending: &str) -> Result<String, Fail> {
@@ -24,64 +56,112 @@ fn file(alloc: Global, ending: &str) -> Result<String, Fail> {
     Ok(name)
 }
 
-// What a run left.
-#[derive(Drop)]
-struct Ran {
-    status: Status,
-    folder: MemFolder,
-    out: Vec<u8>,
+// A text of the end, what was put out, and the files.
+fn report(alloc: Global, end: &str, out: &str, files: &str) -> Result<String, Fail> {
+    Ok(format!(in alloc; "{end}\n{out}\n{files}")?)
 }
 
-// Runs a tool on the project P, where the calls of the folder with these numbers fail.
-fn run(alloc: Global, tool: Tool, input: &[Text], fail: Vec<u64>) -> Result<Ran, Fail> {
-    let mut folder = MemFolder::new(alloc, fail);
+// The text of bytes.
+fn text(alloc: Global, bytes: &[u8]) -> Result<String, Fail> {
+    let mut shown = String::new(alloc);
+    for byte in bytes {
+        shown.push(char::from(*byte))?;
+    }
+    Ok(shown)
+}
+
+// The output files that are there, each with its ending and its text.
+fn outputs(alloc: Global, folder: &MemFolder) -> Result<String, Fail> {
+    let mut files = String::new(alloc);
+    for ending in &OUTPUTS {
+        if let Some(bytes) = folder.file(file(alloc, ending)?.as_str()) {
+            files.push_str(ending)?;
+            files.push('\n')?;
+            files.push_str(text(alloc, bytes)?.as_str())?;
+        }
+    }
+    Ok(files)
+}
+
+// A folder with these files, of whose calls the listed ones fail.
+fn folder_of(alloc: Global, input: &[Text], failing: &[u64]) -> Result<MemFolder, Fail> {
+    let mut folder = MemFolder::new(alloc, failing.to_vec(alloc)?);
     for (ending, text) in input {
         folder.insert(file(alloc, ending)?.as_str(), text.as_bytes())?;
     }
-    let mut words = Words::new(alloc);
-    words.push("P")?;
-    let mut out = MemSink::new(alloc, Vec::new(alloc));
-    let mut err = MemSink::new(alloc, Vec::new(alloc));
-    let status = run_tool(alloc, tool, &words, &mut folder, &mut out, &mut err);
-    let out = out.bytes().to_vec(alloc)?;
-    Ok(Ran {
-        status,
-        folder,
-        out,
-    })
+    Ok(folder)
 }
 
-// Whether the folder holds these files.
-fn holds(alloc: Global, folder: &MemFolder, output: &[Text]) -> Result<bool, Fail> {
-    for (ending, text) in output {
-        if folder.file(file(alloc, ending)?.as_str()) != Some(text.as_bytes()) {
-            return Ok(false);
+// These words.
+fn words_of(alloc: Global, words: &[&str]) -> Result<Words, Fail> {
+    let mut list = Words::new(alloc);
+    for word in words {
+        list.push(word)?;
+    }
+    Ok(list)
+}
+
+// The status and the end of a run.
+fn end_of_run(
+    alloc: Global,
+    tool: Tool,
+    words: &[&str],
+    folder: &mut MemFolder,
+    out: &mut MemSink,
+) -> Result<String, Fail> {
+    let words = words_of(alloc, words)?;
+    let mut err = MemSink::new(alloc, Vec::new(alloc));
+    let status = run_tool(alloc, tool, &words, folder, out, &mut err);
+    Ok(format!(in alloc; "{} {:?}", status.code, status.end)?)
+}
+
+// What a run of the case comes to.
+fn outcome(alloc: Global, case: &Case) -> Result<String, Fail> {
+    let mut folder = folder_of(alloc, case.input, case.failing.0)?;
+    let mut out = MemSink::new(alloc, case.failing.1.to_vec(alloc)?);
+    let end = end_of_run(alloc, case.tool, case.words, &mut folder, &mut out)?;
+    let put = text(alloc, out.bytes())?;
+    let files = outputs(alloc, &folder)?;
+    report(alloc, end.as_str(), put.as_str(), files.as_str())
+}
+
+// What the case is to come to.
+fn wanted(alloc: Global, case: &Case) -> Result<String, Fail> {
+    let mut files = String::new(alloc);
+    for (ending, text) in case.output {
+        files.push_str(ending)?;
+        files.push('\n')?;
+        files.push_str(text)?;
+    }
+    report(alloc, case.end, case.out, files.as_str())
+}
+
+// What came and what was to come, for each case where these differ.
+fn differences(alloc: Global, cases: &[Case]) -> Result<String, Fail> {
+    let mut shown = String::new(alloc);
+    for case in cases {
+        let came = outcome(alloc, case)?;
+        let due = wanted(alloc, case)?;
+        if came.as_str() != due.as_str() {
+            shown.push_str("came: ")?;
+            shown.push_str(came.as_str())?;
+            shown.push_str("due: ")?;
+            shown.push_str(due.as_str())?;
         }
     }
-    Ok(true)
-}
-
-// Whether the end, the output files and the summary are as wanted.
-fn is_as_wanted(alloc: Global, case: &Case) -> Result<bool, Fail> {
-    let ran = run(alloc, case.tool, case.input, Vec::new(alloc))?;
-    let end = format!(in alloc; "{:?}", ran.status.end)?;
-    Ok(
-        end.as_str() == case.end
-            && ran.out.as_slice() == case.out.as_bytes()
-            && holds(alloc, &ran.folder, case.output)?,
-    )
+    Ok(shown)
 }
 
 #[test]
 fn three_unit_vectors_are_written(rt: HostRuntime) -> Result<(), Fail> {
-    let case = Case {
-        tool: Tool::Hilbert,
-        input: &[(".mat", "0 3\n")],
-        end: "Done { solutions: 3, pairs: 0, norm_total: 3 }",
-        output: &[(".hil", "3 3\n0 0 1\n0 1 0\n1 0 0\n")],
-        out: "3 solutions, 0 pairs\n",
-    };
-    assert!(rt; is_as_wanted(rt.alloc(), &case)?);
+    let cases = [done(
+        Tool::Hilbert,
+        &[(".mat", "0 3\n")],
+        "0 Done { solutions: 3, pairs: 0, norm_total: 3 }",
+        &[(".hil", "3 3\n0 0 1\n0 1 0\n1 0 0\n")],
+        "3 solutions, 0 pairs\n",
+    )];
+    assert_eq!(rt; differences(rt.alloc(), &cases)?.as_str(), "");
     Ok(())
 }
 
@@ -89,190 +169,264 @@ fn three_unit_vectors_are_written(rt: HostRuntime) -> Result<(), Fail> {
 fn minimal_solutions_are_written(rt: HostRuntime) -> Result<(), Fail> {
     let cases = [
         // Odd white space, a sign and leading zeros.
-        Case {
-            tool: Tool::Hilbert,
-            input: &[(".mat", " 1  2\r\n   +1   -02\r\n\n")],
-            end: "Done { solutions: 1, pairs: 2, norm_total: 3 }",
-            output: &[(".hil", "1 2\n2 1\n")],
-            out: "1 solutions, 2 pairs\n",
-        },
+        done(
+            Tool::Hilbert,
+            &[(".mat", " 1  2\r\n   +1   -02\r\n\n")],
+            "0 Done { solutions: 1, pairs: 2, norm_total: 3 }",
+            &[(".hil", "1 2\n2 1\n")],
+            "1 solutions, 2 pairs\n",
+        ),
         // Magic squares of order three.
-        Case {
-            tool: Tool::Hilbert,
-            input: &[(
+        done(
+            Tool::Hilbert,
+            &[(
                 ".mat",
                 "7 9\n1 1 1 -1 -1 -1 0 0 0\n1 1 1 0 0 0 -1 -1 -1\n0 1 1 -1 0 0 -1 0 0\n1 0 1 0 -1 0 0 -1 0\n1 1 0 0 0 -1 0 0 -1\n0 1 1 0 -1 0 0 0 -1\n1 1 0 0 -1 0 -1 0 0\n",
             )],
-            end: "Done { solutions: 5, pairs: 113, norm_total: 45 }",
-            output: &[(
+            "0 Done { solutions: 5, pairs: 113, norm_total: 45 }",
+            &[(
                 ".hil",
                 "5 9\n0 2 1 2 1 0 1 0 2\n1 0 2 2 1 0 0 2 1\n1 1 1 1 1 1 1 1 1\n1 2 0 0 1 2 2 0 1\n2 0 1 0 1 2 1 2 0\n",
             )],
-            out: "5 solutions, 113 pairs\n",
-        },
+            "5 solutions, 113 pairs\n",
+        ),
         // The Graver basis of one equation, and with a column that is at least 0.
-        Case {
-            tool: Tool::Graver,
-            input: &[(".mat", "1 3\n1 2 3\n")],
-            end: "Done { solutions: 5, pairs: 64, norm_total: 19 }",
-            output: &[(".gra", "5 3\n0 3 -2\n1 -2 1\n1 1 -1\n2 -1 0\n3 0 -1\n")],
-            out: "5 solutions, 64 pairs\n",
-        },
-        Case {
-            tool: Tool::Graver,
-            input: &[(".mat", "1 3\n1 2 3\n"), (".sign", "1 3\n2 1 2\n")],
-            end: "Done { solutions: 5, pairs: 35, norm_total: 19 }",
-            output: &[(".gra", "5 3\n-2 1 0\n-1 2 -1\n0 3 -2\n1 1 -1\n3 0 -1\n")],
-            out: "5 solutions, 35 pairs\n",
-        },
+        done(
+            Tool::Graver,
+            &[(".mat", "1 3\n1 2 3\n")],
+            "0 Done { solutions: 5, pairs: 64, norm_total: 19 }",
+            &[(".gra", "5 3\n0 3 -2\n1 -2 1\n1 1 -1\n2 -1 0\n3 0 -1\n")],
+            "5 solutions, 64 pairs\n",
+        ),
+        done(
+            Tool::Graver,
+            &[(".mat", "1 3\n1 2 3\n"), (".sign", "1 3\n2 1 2\n")],
+            "0 Done { solutions: 5, pairs: 35, norm_total: 19 }",
+            &[(".gra", "5 3\n-2 1 0\n-1 2 -1\n0 3 -2\n1 1 -1\n3 0 -1\n")],
+            "5 solutions, 35 pairs\n",
+        ),
         // The moves between tables of three by three.
-        Case {
-            tool: Tool::Graver,
-            input: &[(
+        done(
+            Tool::Graver,
+            &[(
                 ".mat",
                 "6 9\n1 1 1 0 0 0 0 0 0\n0 0 0 1 1 1 0 0 0\n0 0 0 0 0 0 1 1 1\n1 0 0 1 0 0 1 0 0\n0 1 0 0 1 0 0 1 0\n0 0 1 0 0 1 0 0 1\n",
             )],
-            end: "Done { solutions: 15, pairs: 144, norm_total: 72 }",
-            output: &[(
+            "0 Done { solutions: 15, pairs: 144, norm_total: 72 }",
+            &[(
                 ".gra",
                 "15 9\n0 0 0 0 1 -1 0 -1 1\n0 0 0 1 -1 0 -1 1 0\n0 0 0 1 0 -1 -1 0 1\n0 1 -1 -1 0 1 1 -1 0\n0 1 -1 0 -1 1 0 0 0\n0 1 -1 0 0 0 0 -1 1\n0 1 -1 1 -1 0 -1 0 1\n1 -1 0 -1 0 1 0 1 -1\n1 -1 0 -1 1 0 0 0 0\n1 -1 0 0 0 0 -1 1 0\n1 -1 0 0 1 -1 -1 0 1\n1 0 -1 -1 0 1 0 0 0\n1 0 -1 -1 1 0 0 -1 1\n1 0 -1 0 -1 1 -1 1 0\n1 0 -1 0 0 0 -1 0 1\n",
             )],
-            out: "15 solutions, 144 pairs\n",
-        },
+            "15 solutions, 144 pairs\n",
+        ),
         // A column that is at most 0, and an inequality.
-        Case {
-            tool: Tool::Hilbert,
-            input: &[(".mat", "1 2\n1 1\n"), (".sign", "1 2\n1 -1\n")],
-            end: "Done { solutions: 1, pairs: 1, norm_total: 2 }",
-            output: &[(".hil", "1 2\n1 -1\n")],
-            out: "1 solutions, 1 pairs\n",
-        },
-        Case {
-            tool: Tool::Hilbert,
-            input: &[(".mat", "1 2\n1 -1\n"), (".rel", "1 1\n<\n")],
-            end: "Done { solutions: 2, pairs: 2, norm_total: 3 }",
-            output: &[(".hil", "2 2\n0 1\n1 1\n")],
-            out: "2 solutions, 2 pairs\n",
-        },
+        done(
+            Tool::Hilbert,
+            &[(".mat", "1 2\n1 1\n"), (".sign", "1 2\n1 -1\n")],
+            "0 Done { solutions: 1, pairs: 1, norm_total: 2 }",
+            &[(".hil", "1 2\n1 -1\n")],
+            "1 solutions, 1 pairs\n",
+        ),
+        done(
+            Tool::Hilbert,
+            &[(".mat", "1 2\n1 -1\n"), (".rel", "1 1\n<\n")],
+            "0 Done { solutions: 2, pairs: 2, norm_total: 3 }",
+            &[(".hil", "2 2\n0 1\n1 1\n")],
+            "2 solutions, 2 pairs\n",
+        ),
         // The diagonal, with and without right sides.
-        Case {
-            tool: Tool::Zsolve,
-            input: &[
+        done(
+            Tool::Zsolve,
+            &[
                 (".mat", "1 2\n1 -1\n"),
                 (".sign", "1 2\n1 1\n"),
                 (".rhs", "1 1\n0\n"),
             ],
-            end: "Done { solutions: 2, pairs: 1, norm_total: 2 }",
-            output: &[(".zhom", "1 2\n1 1\n"), (".zinhom", "1 2\n0 0\n")],
-            out: "2 solutions, 1 pairs\n",
-        },
-        Case {
-            tool: Tool::Zsolve,
-            input: &[(".mat", "1 2\n1 -1\n"), (".sign", "1 2\n1 1\n")],
-            end: "Done { solutions: 2, pairs: 1, norm_total: 2 }",
-            output: &[(".zhom", "1 2\n1 1\n"), (".zinhom", "1 2\n0 0\n")],
-            out: "2 solutions, 1 pairs\n",
-        },
-        // Seventeen by seventeen.
-        Case {
-            tool: Tool::Hilbert,
-            input: &[(
-                ".mat",
-                "1 34\n1 1 1 1 1 1 1 1 1 1 1 1 1 1 1 1 1 -1 -1 -1 -1 -1 -1 -1 -1 -1 -1 -1 -1 -1 -1 -1 -1 -1\n",
-            )],
-            end: "Done { solutions: 289, pairs: 289, norm_total: 578 }",
-            output: &[],
-            out: "289 solutions, 289 pairs\n",
-        },
+            "0 Done { solutions: 2, pairs: 1, norm_total: 2 }",
+            &[(".zhom", "1 2\n1 1\n"), (".zinhom", "1 2\n0 0\n")],
+            "2 solutions, 1 pairs\n",
+        ),
+        done(
+            Tool::Zsolve,
+            &[(".mat", "1 2\n1 -1\n"), (".sign", "1 2\n1 1\n")],
+            "0 Done { solutions: 2, pairs: 1, norm_total: 2 }",
+            &[(".zhom", "1 2\n1 1\n"), (".zinhom", "1 2\n0 0\n")],
+            "2 solutions, 1 pairs\n",
+        ),
         // The polygon: (1, 1) stays because of a slack.
-        Case {
-            tool: Tool::Zsolve,
-            input: &[
+        done(
+            Tool::Zsolve,
+            &[
                 (".mat", "3 2\n1 -1\n-3 1\n1 1\n"),
                 (".sign", "1 2\n1 1\n"),
                 (".rel", "1 3\n< < >\n"),
                 (".rhs", "1 3\n2 1 1\n"),
             ],
-            end: "Done { solutions: 7, pairs: 60, norm_total: 15 }",
-            output: &[
+            "0 Done { solutions: 7, pairs: 60, norm_total: 15 }",
+            &[
                 (".zhom", "3 2\n1 1\n1 2\n1 3\n"),
                 (".zinhom", "4 2\n0 1\n1 0\n1 1\n2 0\n"),
             ],
-            out: "7 solutions, 60 pairs\n",
-        },
+            "7 solutions, 60 pairs\n",
+        ),
+        // A product that is the greatest number of the range.
+        done(
+            Tool::Hilbert,
+            &[(
+                ".mat",
+                "2 3\n1 -1 0\n4611686018427387904 4611686018427387903 -9223372036854775807\n",
+            )],
+            "0 Done { solutions: 1, pairs: 2, norm_total: 3 }",
+            &[(".hil", "1 3\n1 1 1\n")],
+            "1 solutions, 2 pairs\n",
+        ),
         // 2 x = 1 has no solution.
-        Case {
-            tool: Tool::Zsolve,
-            input: &[
+        done(
+            Tool::Zsolve,
+            &[
                 (".mat", "1 1\n2\n"),
                 (".sign", "1 1\n1\n"),
                 (".rhs", "1 1\n1\n"),
             ],
-            end: "Done { solutions: 0, pairs: 2, norm_total: 0 }",
-            output: &[(".zhom", "0 1\n"), (".zinhom", "0 1\n")],
-            out: "0 solutions, 2 pairs\n",
-        },
+            "0 Done { solutions: 0, pairs: 2, norm_total: 0 }",
+            &[(".zhom", "0 1\n"), (".zinhom", "0 1\n")],
+            "0 solutions, 2 pairs\n",
+        ),
     ];
-    for case in &cases {
-        assert!(rt; is_as_wanted(rt.alloc(), case)?, "{}", case.end);
-    }
+    assert_eq!(rt; differences(rt.alloc(), &cases)?.as_str(), "");
     Ok(())
 }
 
-// A run that ends before anything is written.
-fn refused(tool: Tool, input: &'static [Text], end: &'static str) -> Case {
-    Case {
-        tool,
-        input,
-        end,
-        output: &[],
-        out: "",
+// The pairs of 17 and 17 columns in lexicographic order, each a row with a 1 among the first and one among the last.
+fn pair_rows(alloc: Global) -> Result<String, Fail> {
+    let mut rows = String::new(alloc);
+    for pair in 0..289 {
+        let (first, last) = (16 - pair / 17, 33 - pair % 17);
+        for column in 0..34 {
+            let entry = if column == first || column == last {
+                '1'
+            } else {
+                '0'
+            };
+            rows.push(entry)?;
+            rows.push(if column < 33 { ' ' } else { '\n' })?;
+        }
     }
+    Ok(rows)
+}
+
+#[test]
+fn seventeen_by_seventeen_have_all_pairs(rt: HostRuntime) -> Result<(), Fail> {
+    let alloc = rt.alloc();
+    let case = refused(
+        Tool::Hilbert,
+        &[(
+            ".mat",
+            "1 34\n1 1 1 1 1 1 1 1 1 1 1 1 1 1 1 1 1 -1 -1 -1 -1 -1 -1 -1 -1 -1 -1 -1 -1 -1 -1 -1 -1 -1\n",
+        )],
+        "",
+    );
+    let end = "0 Done { solutions: 289, pairs: 289, norm_total: 578 }";
+    let out = "289 solutions, 289 pairs\n";
+    let files = format!(in alloc; ".hil\n289 34\n{}", pair_rows(alloc)?)?;
+    assert_eq!(rt;
+        outcome(alloc, &case)?.as_str(),
+        report(alloc, end, out, files.as_str())?.as_str()
+    );
+    Ok(())
+}
+
+// A matrix file of one byte more than is read.
+#[test]
+fn a_long_file_is_not_read(rt: HostRuntime) -> Result<(), Fail> {
+    let alloc = rt.alloc();
+    let mut folder = MemFolder::new(alloc, Vec::new(alloc));
+    folder.insert("P.mat", vec![in alloc; b' '; 4_194_305]?.as_slice())?;
+    let mut out = MemSink::new(alloc, Vec::new(alloc));
+    let end = end_of_run(alloc, Tool::Hilbert, &["P"], &mut folder, &mut out)?;
+    assert_eq!(rt; end.as_str(), "2 TooLong(Mat)");
+    Ok(())
 }
 
 #[test]
 fn the_first_fault_is_the_end(rt: HostRuntime) -> Result<(), Fail> {
     let cases = [
-        refused(Tool::Hilbert, &[], "Missing(Mat)"),
+        refused(Tool::Hilbert, &[], "2 Missing(Mat)"),
         refused(
             Tool::Hilbert,
             &[(".mat", "2 2\n1 2 3\n")],
-            "Text(Mat, Early { at: 10 })",
+            "2 Text(Mat, Early { at: 10 })",
         ),
         refused(
             Tool::Hilbert,
+            &[(".mat", "1 1\n9223372036854775808\n")],
+            "2 Text(Mat, OutOfRange { at: 4 })",
+        ),
+        refused(
+            Tool::Hilbert,
+            &[(".mat", "1 1\n3x\n")],
+            "2 Text(Mat, NotNumber { at: 4 })",
+        ),
+        refused(
+            Tool::Hilbert,
+            &[(".mat", "1 1\n5 6\n")],
+            "2 Text(Mat, Extra { at: 6 })",
+        ),
+        refused(
+            Tool::Hilbert,
+            &[(".mat", "")],
+            "2 Text(Mat, Early { at: 0 })",
+        ),
+        refused(
+            Tool::Hilbert,
+            &[(".mat", "65 1\n")],
+            "2 Text(Mat, TooManyRows { found: 65 })",
+        ),
+        refused(
+            Tool::Hilbert,
+            &[(".mat", "1 65\n")],
+            "2 Text(Mat, TooManyCols { found: 65 })",
+        ),
+        refused(Tool::Hilbert, &[(".mat", "1 0\n")], "2 Text(Mat, NoCols)"),
+        refused(
+            Tool::Hilbert,
             &[(".mat", "0 3\n"), (".ub", "")],
-            "Refused(Ub)",
+            "2 Refused(Ub)",
         ),
         refused(
             Tool::Hilbert,
             &[(".mat", "1 2\n1 -1\n"), (".rhs", "1 1\n0\n")],
-            "Shape(RhsNotHere)",
+            "2 Shape(RhsNotHere)",
         ),
         refused(
-            Tool::Hilbert,
-            &[(".mat", "1 2\n1 -1\n"), (".sign", "1 2\n1 0\n")],
-            "Shape(Free { at: 2 })",
-        ),
-        refused(
-            Tool::Hilbert,
-            &[(".mat", "1 2\n1 -1\n"), (".sign", "1 2\n1 3\n")],
-            "Shape(BadSign { at: 2, value: 3 })",
-        ),
-        refused(
-            Tool::Zsolve,
-            &[(".mat", "1 2\n1 -1\n")],
-            "Shape(SignNeeded)",
-        ),
-        refused(
-            Tool::Zsolve,
-            &[(".mat", "1 2\n1 -1\n"), (".sign", "1 1\n1\n")],
-            "Shape(SignShape { rows: 1, cols: 1 })",
+            Tool::Graver,
+            &[(".mat", "1 2\n1 -1\n"), (".rhs", "1 1\n0\n")],
+            "2 Shape(RhsNotHere)",
         ),
         refused(
             Tool::Hilbert,
             &[(".mat", "1 2\n1 -1\n"), (".rel", "1 2\n< =\n")],
-            "Shape(RelShape { rows: 1, cols: 2 })",
+            "2 Shape(RelShape { rows: 1, cols: 2 })",
+        ),
+        refused(
+            Tool::Zsolve,
+            &[(".mat", "1 2\n1 -1\n")],
+            "2 Shape(SignNeeded)",
+        ),
+        refused(
+            Tool::Zsolve,
+            &[(".mat", "1 2\n1 -1\n"), (".sign", "1 2\n1 0\n")],
+            "2 Shape(Free { at: 2 })",
+        ),
+        refused(
+            Tool::Zsolve,
+            &[(".mat", "1 2\n1 -1\n"), (".sign", "1 2\n1 3\n")],
+            "2 Shape(BadSign { at: 2, value: 3 })",
+        ),
+        refused(
+            Tool::Zsolve,
+            &[(".mat", "1 2\n1 -1\n"), (".sign", "1 1\n1\n")],
+            "2 Shape(SignShape { rows: 1, cols: 1 })",
         ),
         refused(
             Tool::Zsolve,
@@ -281,36 +435,72 @@ fn the_first_fault_is_the_end(rt: HostRuntime) -> Result<(), Fail> {
                 (".sign", "1 2\n1 1\n"),
                 (".rhs", "2 1\n0\n0\n"),
             ],
-            "Shape(RhsShape { rows: 2, cols: 1 })",
+            "2 Shape(RhsShape { rows: 2, cols: 1 })",
         ),
+        // A number leaves the range at the second equation.
+        refused(
+            Tool::Hilbert,
+            &[(".mat", "2 3\n1 -3 0\n4611686018427387904 0 -1\n")],
+            "3 Overflow { stage: 2, place: Row(IntRow { cells: [3, 1, 0] }) }",
+        ),
+        // Words that are no project's name.
+        Case {
+            words: &["P", "Q"],
+            ..refused(Tool::Hilbert, &[(".mat", "0 3\n")], "1 Usage")
+        },
     ];
-    for case in &cases {
-        assert!(rt; is_as_wanted(rt.alloc(), case)?, "{}", case.end);
-    }
+    assert_eq!(rt; differences(rt.alloc(), &cases)?.as_str(), "");
     Ok(())
 }
 
-// The seventh append fails, the second line of the second file: the first file is whole, and of the second a prefix is there.
+// The project's files of a polygon.
+const POLYGON: &[Text] = &[
+    (".mat", "3 2\n1 -1\n-3 1\n1 1\n"),
+    (".sign", "1 2\n1 1\n"),
+    (".rel", "1 3\n< < >\n"),
+    (".rhs", "1 3\n2 1 1\n"),
+];
+
+// The second call of the folder reads the matrix, the tenth looks for `.lat`, and the twenty-first appends the second row of
+// the second file, of which half a line stands there then. The second put on standard output has the word behind the count.
 #[test]
-fn a_fault_leaves_a_prefix(rt: HostRuntime) -> Result<(), Fail> {
-    let alloc = rt.alloc();
-    let input = [
-        (".mat", "3 2\n1 -1\n-3 1\n1 1\n"),
-        (".sign", "1 2\n1 1\n"),
-        (".rel", "1 3\n< < >\n"),
-        (".rhs", "1 3\n2 1 1\n"),
+fn a_device_fault_is_named(rt: HostRuntime) -> Result<(), Fail> {
+    let cases = [
+        Case {
+            failing: (&[2], &[]),
+            ..refused(Tool::Zsolve, POLYGON, "5 Outside(Mat)")
+        },
+        Case {
+            failing: (&[10], &[]),
+            ..refused(Tool::Zsolve, POLYGON, "5 Outside(Lat)")
+        },
+        Case {
+            failing: (&[21], &[]),
+            ..done(
+                Tool::Zsolve,
+                POLYGON,
+                "5 Outside(Zinhom)",
+                &[
+                    (".zhom", "3 2\n1 1\n1 2\n1 3\n"),
+                    (".zinhom", "4 2\n0 1\n1 "),
+                ],
+                "",
+            )
+        },
+        Case {
+            failing: (&[], &[2]),
+            ..done(
+                Tool::Zsolve,
+                POLYGON,
+                "5 Outside(Out)",
+                &[
+                    (".zhom", "3 2\n1 1\n1 2\n1 3\n"),
+                    (".zinhom", "4 2\n0 1\n1 0\n1 1\n2 0\n"),
+                ],
+                "7 solut",
+            )
+        },
     ];
-    let whole = run(alloc, Tool::Zsolve, &input, Vec::new(alloc))?;
-    let ran = run(
-        alloc,
-        Tool::Zsolve,
-        &input,
-        vec![in alloc; whole.folder.calls().saturating_sub(2)]?,
-    )?;
-    assert!(rt; matches!(ran.status.end, End::Outside(Part::Zinhom)));
-    assert_eq!(rt; ran.status.code, 5);
-    assert!(rt; ran.folder.file("P.zhom") == Some(b"3 2\n1 1\n1 2\n1 3\n".as_slice()));
-    assert!(rt; ran.folder.file("P.zinhom") == Some(b"4 2\n0 1\n1 ".as_slice()));
-    assert!(rt; ran.out.as_slice().is_empty());
+    assert_eq!(rt; differences(rt.alloc(), &cases)?.as_str(), "");
     Ok(())
 }

@@ -1,3 +1,4 @@
-pub mod PutLemmas
-pub mod EndLemmas
-pub mod OutputLemmas
+pub mod Cuts
+pub mod Conclusions
+pub mod Wanted
+pub mod Sequences

@@ -1,10 +1,14 @@
 pub mod Names
-pub mod Planned
-pub mod Ends
-pub mod Solved
+pub mod Plan
+pub mod Outputs
+pub mod Expected
+pub mod Summary
+pub mod Messages
+pub mod Left
+pub mod Inside
 pub use Rattle.outside.specs.Files
 pub use Rattle.outside.specs.Causes
-pub use Rattle.mat_files.specs.Cells
+pub use Rattle.outside.specs.Pieces
 pub use Rattle.mat_files.specs.Texts
 pub use Rattle.lift_core.specs.Systems
 pub use Rattle.lift_core.specs.ToolSystems
@@ -12,7 +16,10 @@ pub use Rattle.lift_core.specs.Inside.Written
 pub use Rattle.system_shape.specs.Problem
 pub use Rattle.system_shape.specs.Slacks
 pub use Rattle.system_shape.specs.Shape
-pub use Rattle.solution_files.specs.Outputs
+pub use Rattle.tool_words.specs.Jobs
+pub use Rattle.system_files.specs.Inputs
+pub use Rattle.system_files.specs.Files as SystemFiles
+pub use Rattle.solution_files.specs.Outputs as SolutionOutputs
 pub use Rattle.solution_files.specs.Laws
 pub use Rattle.lift_core.specs.Ends as LiftEnds
 pub use Rattle.int_vector.specs.Vectors

@@ -1,25 +1,14 @@
--- The words of a command, and the names of a project's files.
-use Rattle.std.specs.Prelude.{ℕ, ◌==◌, ◌&&◌, not, nat_le, Bool, false, if◌then◌else◌, List, [], ◌∷◌, ◌++◌, length, Option, None, Some, codes}
-use Rattle.std.specs.List.{list_all}
+-- The names of a project's files.
+use Rattle.std.specs.Prelude.{ℕ, List, [], ◌++◌, codes}
 use Rattle.tool_top.specs.declared.ends.Part.{Part}
-use Rattle.tool_top.specs.declared.ends.Part.TheVariants.{Mat, Sign, Rel, Rhs, Lat, Lb, Ub, Gra, Hil, Zhom, Zinhom, Out}
-
--- a project's name has 1 to 200 bytes, no zero byte, and no dash (45) at its front
-abbrev pub is_name : List ℕ → Bool
-is_name [] = false
-is_name (b ∷ bs) = nat_le (length (b ∷ bs)) 200 && (not (b == 45) && list_all (λ x. not (x == 0)) (b ∷ bs))
-
--- the project, where the words are its name alone
-abbrev pub project_in : List (List ℕ) → Option (List ℕ)
-project_in [] = None
-project_in (w ∷ []) = if is_name w then Some w else None
-project_in (w ∷ v ∷ ws) = None
+use Rattle.tool_top.specs.declared.ends.Part.TheVariants.{Mat, Sign, Rel, Rhs, Cap, Lat, Lb, Ub, Gra, Hil, Zhom, Zinhom, Out}
 
 abbrev pub ending : Part → List ℕ
 ending Mat = codes ".mat"
 ending Sign = codes ".sign"
 ending Rel = codes ".rel"
 ending Rhs = codes ".rhs"
+ending Cap = codes ".cap"
 ending Lat = codes ".lat"
 ending Lb = codes ".lb"
 ending Ub = codes ".ub"

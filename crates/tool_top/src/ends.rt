@@ -1,12 +1,18 @@
-// How a run ends, and which file an end speaks of.
+//! How a run ends, and which file an end speaks of.
+
 ghost use Rattle.std.specs.Prelude.{◌≡◌};
 ghost use Rattle.tool_top.specs.declared.ends.End.TheVariants.{Memory};
-ghost use Rattle.tool_top.specs.Ends.{code_of};
+ghost use Rattle.tool_top.specs.Summary.{code_of};
+ghost use Rattle.tool_top.specs.Plan.{part_of, answer_of};
+ghost use Rattle.tool_top.specs.Inside.Ends.{end_at, end_of};
 
-use lift_run::Place;
+use lift_run::{Place, RunEnd};
 use mat_files::TextFault;
-use std::alloc::{AllocError, AllocFailed};
+use outside::PutEnd;
+use std::alloc::AllocError;
+use system_files::{FileFault, InputFault, InputStop, Source};
 use system_shape::ShapeFault;
+use tool_words::WordEnd;
 
 /// A file of a project, by its ending, or standard output.
 #[derive(Clone, Copy, Debug, PartialEq, Eq)]
@@ -19,6 +25,8 @@ pub enum Part {
     Rel,
     /// `.rhs`, the right sides.
     Rhs,
+    /// `.cap`, the caps of the columns.
+    Cap,
     /// `.lat`, a lattice basis, which is not supported.
     Lat,
     /// `.lb`, lower bounds, which are not supported.
@@ -89,11 +97,114 @@ impl From<AllocError> for End {
     }
 }
 
-impl<T: Drop> From<AllocFailed<T>> for End {
-    ghost from_gives = { λ _ e. e ≡ Memory };
+// An input file, as a part of the project.
+fn part_of(source: Source) -> Part
+    ensures { result ≡ part_of source }
+{
+    match source {
+        Source::Mat => Part::Mat,
+        Source::Sign => Part::Sign,
+        Source::Rel => Part::Rel,
+        Source::Rhs => Part::Rhs,
+        Source::Cap => Part::Cap,
+        Source::Lat => Part::Lat,
+        Source::Lb => Part::Lb,
+        Source::Ub => Part::Ub,
+    }
+}
 
-    fn from(_: AllocFailed<T>) -> End {
-        End::Memory
+// The answer to a fault of the files.
+fn answer_of(fault: InputFault) -> End
+    ensures { result ≡ answer_of fault }
+{
+    match fault {
+        InputFault::File(source, FileFault::Missing) => End::Missing(part_of(source)),
+        InputFault::File(source, FileFault::TooLong { .. }) => End::TooLong(part_of(source)),
+        InputFault::File(source, FileFault::Text(fault)) => End::Text(part_of(source), fault),
+        InputFault::Refused(source) => End::Refused(part_of(source)),
+        InputFault::Shape(fault) => End::Shape(fault),
+    }
+}
+
+impl From<WordEnd> for End {
+    ghost use Rattle.tool_top.specs.Inside.Ends.{end_of_words};
+
+    ghost from_gives = { λ words end. end ≡ end_of_words words };
+
+    fn from(refused: WordEnd) -> End {
+        match refused {
+            WordEnd::Usage => End::Usage,
+            WordEnd::Memory => End::Memory,
+        }
+    }
+}
+
+impl From<InputStop> for End {
+    ghost use Rattle.tool_top.specs.Inside.Ends.{end_of_stop};
+
+    ghost from_gives = { λ stop end. end ≡ end_of_stop stop };
+
+    fn from(stopped: InputStop) -> End {
+        match stopped {
+            InputStop::Bad(fault) => answer_of(fault),
+            InputStop::Failed(source) => End::Outside(part_of(source)),
+            InputStop::Memory => End::Memory,
+        }
+    }
+}
+
+impl From<RunEnd> for End {
+    ghost use Rattle.tool_top.specs.Inside.Ends.{end_of_run};
+
+    ghost from_gives = { λ run end. end ≡ end_of_run run };
+
+    fn from(stopped: RunEnd) -> End {
+        match stopped {
+            RunEnd::Overflow { stage, place } => End::Overflow { stage, place },
+            RunEnd::Pairs {
+                stage,
+                norm,
+                needed,
+            } => End::Pairs {
+                stage,
+                norm,
+                needed,
+            },
+            RunEnd::Rows { stage, norm, count } => End::Rows { stage, norm, count },
+            RunEnd::Memory => End::Memory,
+        }
+    }
+}
+
+// The end where a call on this file was refused.
+pub(crate) fn refused_at(part: Part, refused: PutEnd) -> End
+    ensures { result ≡ end_at part refused }
+{
+    match refused {
+        PutEnd::Failed => End::Outside(part),
+        PutEnd::Memory => End::Memory,
+    }
+}
+
+// The numbers of a run that has written all: the rows of all files, the used pairs, and the sum of the rows' norms.
+#[derive(Clone, Copy)]
+pub(crate) struct Totals {
+    pub(crate) solutions: u64,
+    pub(crate) pairs: u64,
+    pub(crate) norm_total: u128,
+}
+
+// The end of a run that has come to its numbers, or was stopped.
+pub(crate) fn settle(outcome: Result<Totals, End>) -> End
+    ensures { result ≡ end_of outcome }
+{
+    match outcome {
+        Ok(totals) => End::Done {
+            solutions: totals.solutions,
+            pairs: totals.pairs,
+            norm_total: totals.norm_total,
+        },
+        Err(end) => end,
     }
 }
 
@@ -101,8 +212,9 @@ impl<T: Drop> From<AllocFailed<T>> for End {
 #[derive(Debug, Drop)]
 pub struct Status {
     /// 0 where all is done, 1 for wrong words, 2 for a fault of the input, 3 for an overflow, 4 for a spent budget, 5 for
-    /// a device's fault, 6 for want of memory.
+    /// a device's fault, 6 where memory ran out.
     pub code: u8,
+    /// The end that it stands for.
     pub end: End,
 }
 

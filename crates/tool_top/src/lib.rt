@@ -6,14 +6,14 @@
 #![tactic(auto)]
 
 mod ends;
-mod inputs;
+mod messages;
 mod names;
 mod outputs;
 mod program;
-mod solving;
 mod summary;
 mod top;
 
 pub use ends::{End, Part, Status};
+pub use messages::put_message;
 pub use program::run_program;
 pub use top::run_tool;

@@ -1,4 +1,4 @@
-// What the programs share: the machine's words, folder and streams, handed to the top call.
+//! What the programs share: the machine's words, folder and streams, handed to the top call.
 
 use crate::run_tool;
 use lift_core::Tool;
@@ -37,8 +37,8 @@ fn hold_closed_streams(rt: &HostRuntime) -> [io::Result<File>; 3] {
 }
 
 /// Runs a command as a program: on the words that the machine gives, in the current folder, with the standard streams.
-/// Gives the exit status of [`run_tool`]; a word that is no UTF-8 text ends with 1, and want of memory for the words
-/// with 6.
+/// Gives the exit status of [`run_tool`]; a word that is no UTF-8 text ends with 1, and where memory runs out for the words,
+/// it is 6.
 pub fn run_program(rt: &HostRuntime, tool: Tool) -> ExitCode {
     let _held = hold_closed_streams(rt);
     let args = match env::args(rt) {

@@ -1,113 +1,176 @@
-// The top call.
-ghost use Rattle.std.specs.Prelude.{◌≡◌, ◌≢◌, ◌⊎◌, ◌↔◌, ◌≤◌, None, IfSome};
-ghost use Rattle.outside.specs.Causes.{Rose};
-ghost use Rattle.tool_top.specs.Names.{project_in};
-ghost use Rattle.tool_top.specs.Planned.{planned, plan_of};
-ghost use Rattle.tool_top.specs.Ends.{Ends, IsExpected, Tells, code_of};
-ghost use Rattle.tool_top.specs.Solved.{outputs_of, TellsOf, HasSinkCause};
+//! The top call.
 
-use crate::ends::code;
-use crate::inputs::{read_input, shape_system};
-use crate::names::project;
+ghost use Rattle.std.specs.Prelude.{◌≡◌, ◌≢◌, ◌⊎◌, ◌≤◌, Option, None, Some, IfSome, Ok, IfOk, IsOkAnd, vec_len};
+ghost use Rattle.outside.specs.Causes.{Rose};
+ghost use Rattle.system_files.specs.Inputs.{IsShaped};
+ghost use Rattle.tool_words.specs.Jobs.{IsWithinLimits};
+ghost use Rattle.tool_words.specs.declared.jobs.Job.{Job};
+ghost use Rattle.tool_top.specs.Plan.{planned, plan_of, plan_for, job_in, project_of, is_built};
+ghost use Rattle.tool_top.specs.Outputs.{HasWritten};
+ghost use Rattle.tool_top.specs.Expected.{ComesTo, IsExpected, OnDone};
+ghost use Rattle.tool_top.specs.Summary.{Tells, code_of};
+ghost use Rattle.tool_top.specs.Left.{Leaves};
+ghost use Rattle.tool_top.specs.Inside.Ends.{Ends, Asks, end_of, HasSinkCause};
+ghost use Rattle.tool_top.specs.Inside.Writing.{outputs_of, TellsOf};
+
+use crate::ends::{Totals, code, refused_at, settle};
 use crate::outputs::{Outputs, count_rows, norm_total, select_outputs, write_outputs};
-use crate::solving::solve;
 use crate::summary::put_summary;
 use crate::{End, Part, Status};
 use lift_core::Tool;
-use outside::{Folder, PutEnd, Sink, Words};
+use lift_run::{Limits, run_system};
+use outside::{Folder, Sink, Words};
 use std::alloc::Global;
-use system_shape::Input;
+use system_files::{Shaped, read_shaped};
+use tool_words::{Job, WordEnd, read_words};
 
-// Puts the summary of outputs that are written.
-fn tell<O: Sink>(out: &mut O, outputs: &Outputs, pairs: u64) -> End
-    ensures told { TellsOf (outputs_of outputs.now) pairs (O.held out.old) (O.held out.new) result }
-    ensures cause { HasSinkCause (O.faults out.old) (O.faults out.new) result }
+// The project's name, empty where there is none.
+fn project_of(job: &Job) -> &str
+    ensures { result.now ≡ project_of job.now }
+{
+    match &job.project {
+        Some(name) => name.text(),
+        None => "",
+    }
+}
+
+// Whether all that the job asks for is built: restart files and tables are not yet.
+fn is_built(job: &Job) -> bool
+    ensures { result ≡ is_built job.now }
+{
+    job.tables.is_none() && job.backup.is_none() && !job.resume
+}
+
+// The job of the words.
+fn job_in(alloc: Global, tool: Tool, words: &Words) -> Result<Job, WordEnd>
+    ensures asks { Asks (job_in tool words.now) result }
+    ensures within { IfOk result IsWithinLimits }
+{
+    let job = read_words(alloc, tool, words)?;
+    if is_built(&job) {
+        Ok(job)
+    } else {
+        Err(WordEnd::Usage)
+    }
+}
+
+// Puts the summary of outputs that are written, and gives their numbers.
+fn tell<O: Sink>(out: &mut O, job: &Job, outputs: &Outputs, pairs: u64) -> Result<Totals, End>
+    requires { vec_len outputs.now.list ≤ 2 }
+    ensures told { TellsOf job.now (outputs_of outputs.now) pairs (O.held out.old) (O.held out.new) result }
+    ensures cause { HasSinkCause (O.faults out.old) (O.faults out.new) (end_of result) }
 {
     let solutions = count_rows(outputs);
-    match put_summary(out, solutions, pairs) {
-        Ok(()) => End::Done {
+    let norm_total = norm_total(outputs);
+    match put_summary(out, job, solutions, pairs, norm_total) {
+        Ok(()) => Ok(Totals {
             solutions,
             pairs,
-            norm_total: norm_total(outputs),
-        },
-        Err(PutEnd::Failed) => End::Outside(Part::Out),
-        Err(PutEnd::Memory) => End::Memory,
+            norm_total,
+        }),
+        Err(refused) => Err(refused_at(Part::Out, refused)),
     }
 }
 
-// Shapes and solves the system of a project, writes the output files, and tells the summary.
-fn conclude<F: Folder, O: Sink>(
+// Solves the system of a project, writes the output files, and tells the summary.
+fn carry_out<F: Folder, O: Sink>(
     alloc: Global,
     tool: Tool,
-    project: &str,
-    input: &Input,
+    job: &Job,
+    shaped: Shaped,
     folder: &mut F,
     out: &mut O,
-) -> End
-    requires rows { input.now.mat.rows ≤ 64 }
-    requires cols { input.now.mat.cols ≤ 64 }
-    ensures ends { IfSome (F.held folder.old) (λ files. Ends (plan_of tool project.now input.now)
-        (record { files_before = files; files_after = F.held folder.new; out_before = O.held out.old; out_after = O.held out.new }) result) }
-    ensures tells { Tells (O.held out.old) (O.held out.new) result }
-    ensures words { result ≢ End.Usage }
-    ensures folder_fault { (p : Part) → result ≡ End.Outside p → p ≢ Part.Out → Rose (F.faults folder.old) (F.faults folder.new) }
-    ensures out_fault { result ≡ End.Outside Part.Out → Rose (O.faults out.old) (O.faults out.new) }
+) -> Result<Totals, End>
+    requires shaped { IsShaped tool shaped.input shaped.system }
+    requires within { IsWithinLimits job.now }
+    ensures ends { IfSome (F.held folder.old) (λ files.
+        Ends (Ok (record { job = job.now; tool = tool; input = shaped.input }))
+        (record { files_before = files; files_after = F.held folder.new; out_before = O.held out.old; out_after = O.held out.new })
+        (end_of result)) }
+    ensures tells { Tells (Some job.now) (O.held out.old) (O.held out.new) (end_of result) }
+    ensures words { end_of result ≢ End.Usage }
+    ensures folder_fault { (p : Part) → end_of result ≡ End.Outside p → p ≢ Part.Out
+        → Rose (F.faults folder.old) (F.faults folder.new) }
+    ensures out_fault { end_of result ≡ End.Outside Part.Out → Rose (O.faults out.old) (O.faults out.new) }
 {
-    let system = match shape_system(alloc, tool, input) {
-        Ok(system) => system,
-        Err(end) => return end,
+    let limits = Limits {
+        pairs: job.pairs,
+        rows: job.rows,
     };
-    let finish = match solve(alloc, system) {
-        Ok(finish) => finish,
-        Err(end) => return end,
-    };
-    let Ok(outputs) = select_outputs(alloc, &finish) else {
-        return End::Memory;
-    };
-    if let Err(end) = write_outputs(alloc, folder, project, &outputs) {
-        return end;
-    }
-    tell(out, &outputs, finish.pairs)
+    let finish = run_system(alloc, shaped.system, limits)?;
+    let outputs = select_outputs(alloc, &finish)?;
+    write_outputs(alloc, folder, project_of(job), &outputs)?;
+    tell(out, job, &outputs, finish.pairs)
 }
 
-// All steps, and the end that they come to.
+// All steps behind the words, to the numbers of the run or the end that comes before them.
+fn attempt<F: Folder, O: Sink>(
+    alloc: Global,
+    tool: Tool,
+    job: &Job,
+    folder: &mut F,
+    out: &mut O,
+) -> Result<Totals, End>
+    requires { IsWithinLimits job.now }
+    ensures ends { IfSome (F.held folder.old) (λ files. Ends (plan_of tool job.now files)
+        (record { files_before = files; files_after = F.held folder.new; out_before = O.held out.old; out_after = O.held out.new })
+        (end_of result)) }
+    ensures tells { Tells (Some job.now) (O.held out.old) (O.held out.new) (end_of result) }
+    ensures words { end_of result ≢ End.Usage }
+    ensures folder_fault { (p : Part) → end_of result ≡ End.Outside p → p ≢ Part.Out
+        → Rose (F.faults folder.old) (F.faults folder.new) }
+    ensures out_fault { end_of result ≡ End.Outside Part.Out → Rose (O.faults out.old) (O.faults out.new) }
+{
+    let shaped = read_shaped(alloc, tool, folder, project_of(job))?;
+    carry_out(alloc, tool, job, shaped, folder, out)
+}
+
+// The end of the job of the words, or of words that are refused.
 fn finish<F: Folder, O: Sink>(
     alloc: Global,
     tool: Tool,
-    words: &Words,
+    job: Result<Job, WordEnd>,
     folder: &mut F,
     out: &mut O,
 ) -> End
-    ensures ends { IfSome (F.held folder.old) (λ files. Ends (planned tool words.now files)
-        (record { files_before = files; files_after = F.held folder.new; out_before = O.held out.old; out_after = O.held out.new }) result) }
-    ensures tells { Tells (O.held out.old) (O.held out.new) result }
-    ensures words { result ≡ End.Usage ↔ (project_in words.now ≡ None) }
-    ensures folder_fault { (p : Part) → result ≡ End.Outside p → p ≢ Part.Out → Rose (F.faults folder.old) (F.faults folder.new) }
+    requires { IfOk job IsWithinLimits }
+    ensures ends { (asked : Option Job) → Asks asked job
+        → IfSome (F.held folder.old) (λ files. Ends (plan_for tool asked files)
+        (record { files_before = files; files_after = F.held folder.new; out_before = O.held out.old; out_after = O.held out.new })
+        result) }
+    ensures tells { (asked : Option Job) → Asks asked job
+        → Tells asked (O.held out.old) (O.held out.new) result }
+    ensures words { (asked : Option Job) → Asks asked job → result ≡ End.Usage → asked ≡ None }
+    ensures usage { (asked : Option Job) → Asks asked job → asked ≡ None
+        → (result ≡ End.Usage) ⊎ (result ≡ End.Memory) }
+    ensures folder_fault { (p : Part) → result ≡ End.Outside p → p ≢ Part.Out
+        → Rose (F.faults folder.old) (F.faults folder.new) }
     ensures out_fault { result ≡ End.Outside Part.Out → Rose (O.faults out.old) (O.faults out.new) }
 {
-    let Some(project) = project(words) else {
-        return End::Usage;
-    };
-    match read_input(alloc, folder, project) {
-        Ok(input) => conclude(alloc, tool, project, &input, folder, out),
-        Err(end) => end,
+    match job {
+        Ok(job) => {
+            let outcome = attempt(alloc, tool, &job, folder, out);
+            settle(outcome)
+        }
+        Err(refused) => End::from(refused),
     }
 }
 
 /// Does all that a command does: reads the project's files from `folder`, solves the system that they say, writes its
-/// minimal solutions, and puts a summary on `out`. `words` are the command's words without the program's name. Nothing
-/// is put on `err` yet.
+/// minimal solutions, and puts a summary on `out`, unless the words ask for quiet. `words` are the command's words
+/// without the program's name; `--pairs` and `--rows` bound the run. Nothing is put on `err` yet.
 ///
 /// For a project P the files are those of the 4ti2 user manual: `P.mat`, and `P.sign`, `P.rel`, `P.rhs` where they are
-/// there. `graver` writes the Graver basis (Graver 1975) to `P.gra`, of a vector and its negative the one whose first
-/// nonzero entry is positive; `hilbert` writes the Hilbert basis to `P.hil`; `zsolve` writes the minimal homogeneous
-/// solutions to `P.zhom` and the minimal inhomogeneous ones to `P.zinhom`. The rows are in lexicographic order.
+/// there; `P.cap` bounds the absolute values of the columns. `graver` writes the Graver basis (Graver 1975) to `P.gra`,
+/// of a vector and its negative the one whose first nonzero entry is positive; `hilbert` writes the Hilbert basis to
+/// `P.hil`; `zsolve` writes the minimal homogeneous solutions to `P.zhom` and the minimal inhomogeneous ones to
+/// `P.zinhom`. The rows are in lexicographic order.
 ///
-/// The end is the first that fits: [`End::Usage`] where the words are not one project name (1 to 200 bytes, no zero
-/// byte, no dash at the front); for `.mat`, `.sign`, `.rel`, `.rhs` in turn [`End::Missing`] (`.mat` alone),
-/// [`End::TooLong`], [`End::Text`]; [`End::Refused`] where `.lat`, `.lb` or `.ub` is there; [`End::Shape`];
-/// [`End::Overflow`], [`End::Pairs`] or [`End::Rows`] as the run comes to it; else [`End::Done`]. [`End::Outside`] and
-/// [`End::Memory`] may come in place of each but `Usage`.
+/// The end is the first that fits: [`End::Usage`] where the words are not of the form (restart files and tables are not
+/// built yet, and their options are such words); for `.mat`, `.sign`, `.rel`, `.rhs`, `.cap` in turn [`End::Missing`]
+/// (`.mat` alone), [`End::TooLong`], [`End::Text`]; [`End::Refused`] where `.lat`, `.lb` or `.ub` is there;
+/// [`End::Shape`]; [`End::Overflow`], [`End::Pairs`] or [`End::Rows`] as the run comes to it; else [`End::Done`].
+/// [`End::Outside`] may come in place of each but `Usage`, and [`End::Memory`] in place of each.
 pub fn run_tool<F: Folder, O: Sink, E: Sink>(
     alloc: Global,
     tool: Tool,
@@ -116,30 +179,42 @@ pub fn run_tool<F: Folder, O: Sink, E: Sink>(
     out: &mut O,
     err: &mut E,
 ) -> Status
-    // Where the folder tells its files and no device failed, the end is the expected one, or want of memory.
+    // Where the folder tells its files: at Done, the output files hold exactly the wanted rows of the user's own system,
+    // and all other files are as before.
+    ensures written { IfSome (F.held folder.old) (λ files.
+        OnDone result.end (IsOkAnd (planned tool words.now files) (λ plan. HasWritten plan files (F.held folder.new)))) }
+
+    // Where no device failed, the end is the one that the words and the files decide, or want of memory.
     ensures headline { IfSome (F.held folder.old) (λ files.
         (Rose (F.faults folder.old) (F.faults folder.new) → ⊥) → (Rose (O.faults out.old) (O.faults out.new) → ⊥)
         → IsExpected (planned tool words.now files) result.end ⊎ (result.end ≡ End.Memory)) }
 
-    // Which end it is, and what then stands in the folder and on standard output.
-    ensures ends { IfSome (F.held folder.old) (λ files. Ends (planned tool words.now files)
-        (record { files_before = files; files_after = F.held folder.new; out_before = O.held out.old; out_after = O.held out.new }) result.end) }
+    // Whether or not a device failed, each end but a device's fault and want of memory is that one.
+    ensures expected { IfSome (F.held folder.old) (λ files. ComesTo (planned tool words.now files) result.end) }
+
+    // What then stands in the folder and on standard output.
+    ensures leaves { IfSome (F.held folder.old) (λ files. Leaves (planned tool words.now files)
+        (record { files_before = files; files_after = F.held folder.new; out_before = O.held out.old; out_after = O.held out.new })
+        result.end) }
 
     // What standard output has gained, whether or not the folder tells its files.
-    ensures tells { Tells (O.held out.old) (O.held out.new) result.end }
+    ensures tells { Tells (job_in tool words.now) (O.held out.old) (O.held out.new) result.end }
 
-    // Whether the words are a command's is decided by the words alone.
-    ensures words { result.end ≡ End.Usage ↔ (project_in words.now ≡ None) }
+    // Whether the words are a command's is decided by the words alone; memory may run out while they are read.
+    ensures words { result.end ≡ End.Usage → job_in tool words.now ≡ None }
+    ensures usage { job_in tool words.now ≡ None → (result.end ≡ End.Usage) ⊎ (result.end ≡ End.Memory) }
 
     // A device's fault is answered only where its count rose.
-    ensures folder_fault { (p : Part) → result.end ≡ End.Outside p → p ≢ Part.Out → Rose (F.faults folder.old) (F.faults folder.new) }
+    ensures folder_fault { (p : Part) → result.end ≡ End.Outside p → p ≢ Part.Out
+        → Rose (F.faults folder.old) (F.faults folder.new) }
     ensures out_fault { result.end ≡ End.Outside Part.Out → Rose (O.faults out.old) (O.faults out.new) }
 
     ensures code { result.code ≡ code_of result.end }
     ensures err { E.held err.new ≡ E.held err.old }
 {
     let _ = &err;
-    let end = finish(alloc, tool, words, folder, out);
+    let job = job_in(alloc, tool, words);
+    let end = finish(alloc, tool, job, folder, out);
     Status {
         code: code(&end),
         end,

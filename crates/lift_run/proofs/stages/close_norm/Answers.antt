@@ -1,11 +1,20 @@
-use Rattle.std.proofs.Common.{arith}
+use Rattle.std.proofs.Common.{◌∙◌}
 use Rattle.lift_run.specs.Runs.{bounds}
-use Rattle.lift_run.proofs.Walking.{goes_closed, over_rows}
+use Rattle.lift_run.proofs.Walking.{goes_closed, norm_stop, norm_torn}
 use Rattle.lift_run.proofs.stages.close_norm.Goals as goal
 
-pub returns-in-Ok : goal.returns-in-Ok
-returns-in-Ok c = goes_closed (bounds c.args.limits) c.args.stage.now c.publish.new.self c.args.norm c.in_ok-closed.closed.norm c.requires.allowed c.in_ok-closed.ensures.norm_is c.in-Ok.ensures.end.0 (omega (arith, c.in-Ok.ensures.end.1)) c.in-Ok.ensures.defined
+pub returns-in_err-list_norm-clause-closes : goal.returns-in_err-list_norm-clause-closes
+returns-in_err-list_norm-clause-closes g c =
+    norm_stop g.K.Keep.after g.K.Keep.torn (bounds c.args.limits) c.args.norm c.args.stage.now c.list_norm.new.stage c.in_err-list_norm.field-0.0 c.from_residual.result (g.K.Keep.state c.args.keep.now) c.from_residual.ensures.1 c.in_err-list_norm.ensures.lists
 
-pub returns-in-Err-Rows : goal.returns-in-Err-Rows
-returns-in-Err-Rows c =
-    over_rows (bounds c.args.limits) c.args.stage.now c.publish.new.self _ c.args.norm c.in_ok-closed.closed.norm _ c.in-Err-Rows.count c.in-Err-Rows.field-0 c.in-Err-Rows.field-0-is c.in-Err-Rows.ensures.end (omega arith) (omega arith) c.in_ok-closed.ensures.norm_is c.requires.allowed
+pub returns-in_err-norm_closed-clause-closes : goal.returns-in_err-norm_closed-clause-closes
+returns-in_err-norm_closed-clause-closes g c =
+    norm_torn g.K.Keep.after g.K.Keep.torn (bounds c.args.limits) c.args.norm c.args.stage.now c.list_norm.new.stage c.in_err-norm_closed.field-0.0 c.from_residual-in_err-norm_closed.result (g.K.Keep.state c.args.keep.now) (g.K.Keep.state c.norm_closed.new.self)
+    c.from_residual-in_err-norm_closed.ensures.1 c.in_ok-list_norm.ensures.lists.0 c.in_err-norm_closed.ensures.refused
+
+pub returns-clause-closes : goal.returns-clause-closes
+returns-clause-closes g c = (
+  goes_closed g.K.Keep.after (bounds c.args.limits) c.args.stage.now c.list_norm.new.stage (g.K.Keep.state c.args.keep.now) (g.K.Keep.state c.norm_closed.new.self) c.in_ok-list_norm.ensures.lists.0 c.in_ok-list_norm.ensures.lists.2 c.in_ok-norm_closed.ensures.done,
+  c.in_ok-list_norm.ensures.lists.1,
+  c.in_ok-list_norm.ensures.lists.0.published.number,
+)

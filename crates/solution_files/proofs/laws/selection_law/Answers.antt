@@ -1,4 +1,3 @@
-use Rattle.std.proofs.Common.{length}
 use Rattle.solution_files.specs.Outputs.{kind_of}
 use Rattle.solution_files.proofs.WantedLemmas.{wanted_plain, wanted_graver}
 use Rattle.solution_files.proofs.TextLemmas.{text_of-rows}

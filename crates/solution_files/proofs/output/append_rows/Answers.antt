@@ -1,4 +1,4 @@
-use Rattle.std.proofs.Common.{rules, ◌≡◌, ◌<◌, ◌≤◌, ◌*◌, ◌+◌, ◌-◌, arith, ap, sym, ◌∙◌, length, take, drop}
+use Rattle.std.proofs.Common.{◌≡◌, ◌<◌, ◌+◌, arith, length, take, drop}
 use Rattle.std.proofs.lemmas.Result.{err_from_is_err_and}
 use Rattle.solution_files.proofs.FileLemmas.{row_fits, rest_fits, one_line_more, one_line_refused, no_line_more}
 use Rattle.solution_files.proofs.output.append_rows.Goals as goal

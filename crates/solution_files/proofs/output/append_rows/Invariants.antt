@@ -1,7 +1,7 @@
 use Rattle.std.proofs.Common.{◌≡◌, ◌≤◌, ◌-◌, ◌*◌, ℕ, List, Option, length}
 use Rattle.outside.specs.Files.{Files}
 use Rattle.mat_files.specs.Printed.{lines_of}
-use Rattle.solution_files.specs.Steps.{IsPartWritten}
+use Rattle.outside.specs.Inside.Writing.{IsPartWritten}
 use Rattle.solution_files.proofs.output.append_rows.Given as goal
 
 abbrev pub invariant-loop-row : goal.invariant-loop-row

@@ -1,5 +1,5 @@
-use Rattle.std.proofs.Common.{rules, ap, sym, subst, ◌∙◌}
-use Rattle.int_vector.specs.Vectors.{lex_cmp, negated}
+use Rattle.std.proofs.Common.{rules, ap, ◌∙◌}
+use Rattle.int_vector.specs.Vectors.{lex_cmp}
 use Rattle.solution_files.specs.Steps.{rows_behind, is_among}
 use Rattle.solution_files.proofs.OrderLemmas.{found_is_among, answers_alike}
 use Rattle.solution_files.proofs.selection.has_negative.Goals as goal

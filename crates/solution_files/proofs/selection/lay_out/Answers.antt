@@ -1,6 +1,5 @@
-use Rattle.std.proofs.Common.{◌≡◌, ◌≤◌, ◌++◌, List, [], length, drop, sym, ap, subst, ◌∙◌, append-nil, ℤ, arith, refl}
-use Rattle.std.specs.List.{flat_map}
-use Rattle.std.proofs.lemmas.List.{length-map, at_drop_all}
+use Rattle.std.proofs.Common.{length, sym}
+use Rattle.std.proofs.lemmas.List.{length-map}
 use Rattle.solution_files.specs.Steps.{rows_behind}
 use Rattle.solution_files.proofs.RowLemmas.{rows_matrix, all_laid}
 use Rattle.solution_files.proofs.selection.lay_out.Goals as goal

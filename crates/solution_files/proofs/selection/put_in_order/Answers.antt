@@ -1,4 +1,4 @@
-use Rattle.std.proofs.Common.{◌≤◌, length, arith}
+use Rattle.std.proofs.Common.{arith}
 use Rattle.std.proofs.lemmas.List.Filters.{dedup_is}
 use Rattle.solution_files.proofs.OrderLemmas.{rows_kept_once}
 use Rattle.solution_files.proofs.selection.put_in_order.Goals as goal

@@ -1,5 +1,4 @@
-use Rattle.std.proofs.Common.{rules, ◌≡◌, ◌<◌, ◌≤◌, ◌+◌, ◌++◌, [], ◌∷◌, List, ℕ, length, sym, ap, ◌∙◌, arith, take, Bor, ℤ, length-append, drop, subst, true}
-use Rattle.lift_core.specs.ToolSystems.{width}
+use Rattle.std.proofs.Common.{◌≡◌, ◌<◌, ◌≤◌, ◌+◌, ◌++◌, [], ◌∷◌, length, sym, ap, ◌∙◌, arith, length-append, drop, subst, true}
 use Rattle.int_vector.specs.Range.{InRange}
 use Rattle.lift_core.specs.Inside.Written.{HasX0}
 use Rattle.std.proofs.lemmas.List.Elements.{recursion_from_All}

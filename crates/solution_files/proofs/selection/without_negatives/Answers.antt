@@ -1,4 +1,4 @@
-use Rattle.std.proofs.Common.{rules, ◌≡◌, ◌<◌, ◌≤◌, ◌+◌, ◌++◌, [], ◌∷◌, List, ℕ, length, get_or, sym, ap, ◌∙◌, arith, Bor, ℤ, length-append, refl, Bool, true, false, drop}
+use Rattle.std.proofs.Common.{◌≡◌, ◌+◌, ◌++◌, [], ◌∷◌, List, length, get_or, sym, ap, ◌∙◌, arith, Bor, ℤ, length-append, refl, false, drop}
 use Rattle.std.specs.List.{AllByRecursion, filter}
 use Rattle.int_vector.specs.Range.{InRange}
 use Rattle.solution_files.specs.Steps.{rows_behind, is_left_out, without_negatives}

@@ -1,4 +1,4 @@
-use Rattle.tool_top.proofs.OutputLemmas.{selected_output}
+use Rattle.tool_top.proofs.Wanted.{selected_output}
 use Rattle.tool_top.proofs.outputs.select_output.Goals as goal
 
 pub returns : goal.returns

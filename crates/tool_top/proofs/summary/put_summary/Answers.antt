@@ -1,20 +1,13 @@
-use Rattle.std.proofs.Common.{◌≡◌, ◌++◌, ◌∙◌, ap, codes, decimal, take}
-use Rattle.std.proofs.lemmas.Result.{on_ok_weaker, on_err_weaker}
-use Rattle.std.specs.Io.KnownBytes.{append_known}
+use Rattle.std.proofs.Common.{◌≡◌, OnErr, if◌then◌else◌, [], Some, sym, subst}
+use Rattle.outside.specs.Pieces.{MayPut}
+use Rattle.tool_top.specs.Summary.{lines_of, summary_of}
 use Rattle.tool_top.proofs.summary.put_summary.Goals as goal
 
-pub returns-clause-done : goal.returns-clause-done
-returns-clause-done g c =
-    let a : c.as_bytes.result.now ≡ decimal c.args.solutions = c.as_bytes.ensures.value ∙ c.format.ensures.text in
-    let b : c.as_bytes-2.result.now ≡ decimal c.args.pairs = c.as_bytes-2.ensures.value ∙ c.format-2.ensures.text in
-    on_ok_weaker c.put_pieces.result
-    (λ is. is ∙ ap (append_known (g.O.Sink.held c.args.out.now)) (λ i. a i ++ (codes " solutions, " ++ (b i ++ codes " pairs\n"))))
-    c.put_pieces.ensures.done
-
-pub returns-clause-refused : goal.returns-clause-refused
-returns-clause-refused g c =
-    let a : c.as_bytes.result.now ≡ decimal c.args.solutions = c.as_bytes.ensures.value ∙ c.format.ensures.text in
-    let b : c.as_bytes-2.result.now ≡ decimal c.args.pairs = c.as_bytes-2.ensures.value ∙ c.format-2.ensures.text in
-    on_err_weaker c.put_pieces.result
-    (λ may. (may.0, may.1 ∙ ap (λ t. append_known (g.O.Sink.held c.args.out.now) (take may.0 t)) (λ i. a i ++ (codes " solutions, " ++ (b i ++ codes " pairs\n")))))
-    c.put_pieces.ensures.refused
+pub returns-in-Some-clause-refused : goal.returns-in-Some-clause-refused
+returns-in-Some-clause-refused g c =
+    let e : summary_of c.args.job.now c.args.solutions c.args.pairs c.args.norms ≡ lines_of c.args.job.now.tables c.args.solutions c.args.pairs c.args.norms =
+    λ i. if c.if-job.false i then [] else lines_of c.args.job.now.tables c.args.solutions c.args.pairs c.args.norms in
+    let f : lines_of c.args.job.now.tables c.args.solutions c.args.pairs c.args.norms ≡ lines_of (Some 2) c.args.solutions c.args.pairs c.args.norms =
+    λ i. lines_of (c.in-Some.is i) c.args.solutions c.args.pairs c.args.norms in
+    subst (λ t. OnErr c.put_counts_and_norms.result (MayPut t (g.O.Sink.held c.args.out.now) (g.O.Sink.held c.put_counts_and_norms.new.out))) (sym e)
+    (subst (λ t. OnErr c.put_counts_and_norms.result (MayPut t (g.O.Sink.held c.args.out.now) (g.O.Sink.held c.put_counts_and_norms.new.out))) (sym f) c.put_counts_and_norms.ensures.refused)

@@ -1,10 +1,10 @@
 use Rattle.std.proofs.Common.{◌≡◌, ◌≤◌, length, take, vec_len}
-use Rattle.reduce_tree.specs.Tree.{IsTree}
+use Rattle.reduce_tree.specs.Inside.Filing.{IsTree}
 use Rattle.reduce_tree.proofs.tree.Tree.truncate.Given as goal
 
 abbrev pub invariant-loop-self : goal.invariant-loop-self
 invariant-loop-self l = record {
-  tree : IsTree l.self-inside.width l.self-inside.levels l.self-inside.filed.items l.self-inside.buckets.items;
+  tree : IsTree l.self-inside.width l.self-inside.levels l.self-inside.filed.items l.self-inside.index;
   cut : l.self-inside.filed.items ≡ take (length l.self-inside.filed.items) l.fn.self.filed;
   least : l.len ≤ length l.self-inside.filed.items;
   width : l.self-inside.width ≡ l.fn.self.width;

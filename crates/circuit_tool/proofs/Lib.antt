@@ -1,0 +1,4 @@
+pub mod Supports
+pub mod Scaling
+pub mod Coprime
+pub mod Circuits

@@ -1,0 +1,12 @@
+pub mod Lists
+pub mod Steps
+pub mod Turns
+pub mod Hands
+pub mod Own
+pub mod Puts
+pub mod Rows
+pub mod RunLemmas
+pub mod Closing
+pub mod Shown
+pub mod Ends
+pub mod Sends

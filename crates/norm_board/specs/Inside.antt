@@ -1,0 +1,3 @@
+pub mod NumberRuns
+pub mod Kept
+pub mod Plays

@@ -1,0 +1,14 @@
+pub use Rattle.row_pool.specs.Rows
+pub use Rattle.lift_core.specs.Systems
+pub use Rattle.lift_core.specs.ToolSystems
+pub use Rattle.lift_core.specs.Times
+pub use Rattle.lift_core.specs.PureMachine
+pub use Rattle.stage_store.specs.Stage
+pub use Rattle.stage_store.specs.Numbered
+pub mod Blocks
+pub mod Books
+pub mod Rule
+pub mod Seen
+pub mod Puts
+pub mod Shows
+pub mod Inside

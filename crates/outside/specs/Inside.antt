@@ -1,0 +1,2 @@
+-- What serves the proofs of the layers alone: no public contract cites it.
+pub mod Writing

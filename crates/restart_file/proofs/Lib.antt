@@ -1,0 +1,3 @@
+pub mod Spacing
+pub mod Counted
+pub mod Sending

@@ -1,0 +1,12 @@
+//! Restart files: the text of a stage, sealed with its digest, and the reading of it.
+//!
+//! A restart file says where a run stands: the system, the place, the used pairs and both lists of the stage. Its last line
+//! has the SHA-256 of all bytes before it, so that a file that was cut or altered is not taken for another stage.
+#![tactic(auto)]
+
+mod classes;
+mod lines;
+mod writing;
+
+pub use lines::Version;
+pub use writing::write_restart;

@@ -1,0 +1,95 @@
+-- Rows behind references that are sorted and kept once are the ascending list of the same rows.
+use Rattle.std.proofs.Common.{◌≡◌, inl, inr, ℕ, ◌<◌, ◌≤◌, ◌+◌, List, [], ◌∷◌, length, get_or, refl, sym, ap, subst, ◌∙◌, Bool, true, arith, Ordering, Result, Ok, Err}
+use Rattle.std.specs.Prelude.{ℤ, ◌++◌, ◌⊎◌, take, All, IfOk}
+use Rattle.std.specs.Borrow.{Bor}
+use Rattle.std.specs.List.{Contains, dedup, Any}
+use Rattle.std.specs.List.Sorted.{IsPermutation, IsSorted, IsStrictlySortedBy}
+use Rattle.std.specs.Ordering.{int_cmp, int_eq}
+use Rattle.std.specs.Cmp.{IsTotalOrder, on_total, int_eq_equiv, on_equiv}
+use Rattle.std.specs.Cmp.Lexicographic.{pointwise, lists_equiv, lists_ties}
+use Rattle.std.specs.Cmp.Rules.{signed_items}
+use Rattle.std.proofs.lemmas.List.{length-map}
+use Rattle.std.proofs.lemmas.List.Kept.{IsStrictlySortedBy-dedup, Contains-from_dedup, Any-dedup}
+use Rattle.std.proofs.lemmas.List.Sorted.{Contains-permutation, IsPermutation-sym}
+use Rattle.int_vector.specs.Vectors.{lex_cmp}
+use Rattle.lift_core.proofs.Lists.{each_from_contained}
+use Rattle.lift_core.proofs.Orders.{in_map, from_map, map_ascending, lex_cmp_total}
+use Rattle.std.proofs.lemmas.List.{map-append, append_assoc, take_more}
+use Rattle.std.proofs.lemmas.List.Elements.{Contains-append_cases, Contains-append_left, Contains-append_right, Contains-get_or}
+use Rattle.row_pool.specs.Rows.{InRange, PoolValue}
+use Rattle.lift_core.specs.Lists.{IsListOf}
+use Rattle.lift_core.proofs.Lists.{contains_cases, contains_nothing}
+use Rattle.stage_store.specs.Sorting.{rows_behind, IsOrdered, AreFit}
+
+-- whether two references have the same row behind them, and which comes first
+abbrev pub same_behind : Bor (List ℤ) → Bor (List ℤ) → Bool
+same_behind x y = pointwise int_eq x.now y.now
+
+abbrev pub cmp_behind : Bor (List ℤ) → Bor (List ℤ) → Ordering
+cmp_behind x y = lex_cmp x.now y.now
+
+cmp_behind_total : IsTotalOrder cmp_behind
+cmp_behind_total = on_total (λ x. x.now) lex_cmp_total
+
+ascending_behind : (refs : List (Bor (List ℤ))) → IsStrictlySortedBy cmp_behind refs → IsStrictlySortedBy lex_cmp (rows_behind refs)
+ascending_behind refs h = map_ascending (λ r. r.now) cmp_behind lex_cmp (λ _. Unit {0}) (λ a b p q e. e) refs (each_from_contained (λ _. Unit {0}) refs (λ r c. tt)) h
+
+module _ (before mid after : List (Bor (List ℤ))) (moved : IsPermutation before mid) (once : after ≡ dedup same_behind mid) where
+  was_there : (x : List ℤ) → Contains (rows_behind after) x → Contains (rows_behind before) x
+  was_there x c =
+      let r : (r : Bor (List ℤ)) × Contains after r × (x ≡ r.now) = from_map (λ r. r.now) after x c in
+      subst (Contains (rows_behind before)) (sym r.2)
+      (in_map (λ r. r.now) before r.0 (Contains-permutation mid before r.0 (IsPermutation-sym before mid moved) (Contains-from_dedup same_behind mid r.0 (subst (λ l. Contains l r.0) once r.1))))
+
+  is_there : (x : List ℤ) → Contains (rows_behind before) x → Contains (rows_behind after) x
+  is_there x c =
+      let r : (r : Bor (List ℤ)) × Contains before r × (x ≡ r.now) = from_map (λ r. r.now) before x c in
+      let k : Any (λ y. same_behind r.0 y ≡ true) (dedup same_behind mid) = Any-dedup (on_equiv (λ x. x.now) (lists_equiv int_eq_equiv)) mid r.0 (Contains-permutation before mid r.0 moved r.1) in
+      let same : x ≡ (k.1).now = r.2 ∙ (signed_items (r.0).now (k.1).now).0 k.4 in
+      subst (Contains (rows_behind after)) (sym same) (in_map (λ r. r.now) after k.1 (subst (λ l. Contains l k.1) (sym once) (k.0, k.2, k.3)))
+
+  pub rows_kept_once : IsSorted cmp_behind mid → length after ≤ length before → IsOrdered (rows_behind before) (rows_behind after)
+  rows_kept_once up fewer = record {
+    ascending = ascending_behind after (subst (IsStrictlySortedBy cmp_behind) (sym once) (IsStrictlySortedBy-dedup cmp_behind_total (λ x y. lists_ties int_cmp (λ a b. refl) x.now y.now) mid up));
+    members = λ x. (was_there x, is_there x);
+    count = omega (arith, length-map after (λ r. r.now), length-map before (λ r. r.now));
+  }
+
+-- ---- rows of a pool, one more at a time
+pub pushed_behind : (refs new : List (Bor (List ℤ))) (r : Bor (List ℤ)) (z : List ℤ) → new ≡ refs ++ (r ∷ []) → r.now ≡ z → rows_behind new ≡ rows_behind refs ++ (z ∷ [])
+pushed_behind refs new r z e same = ap rows_behind e ∙ map-append (λ x. x.now) refs (r ∷ []) ∙ ap (λ y. rows_behind refs ++ (y ∷ [])) same
+
+pub one_row_more : (before now rows : List (List ℤ)) (i : ℕ) (new : List (List ℤ)) → i < length rows → now ≡ before ++ take i rows → new ≡ now ++ (get_or rows i [] ∷ []) → new ≡ before ++ take (i + 1) rows
+one_row_more before now rows i new l h e = e ∙ ap (λ x. x ++ (get_or rows i [] ∷ [])) h ∙ append_assoc before (take i rows) (get_or rows i [] ∷ []) ∙ ap (λ x. before ++ x) (sym (take_more rows i [] l))
+
+pub one_fit_more : (w : ℕ) (rows new : List (List ℤ)) (z : List ℤ) → AreFit w rows → new ≡ rows ++ (z ∷ []) → length z ≡ w → All InRange z → AreFit w new
+one_fit_more w rows new z h e l r = λ y c. elim (Contains-append_cases rows (z ∷ []) y (subst (λ x. Contains x y) e c)) [
+  | inl a ↦ h y a
+  | inr b ↦ elim (contains_cases z [] y b) [
+    | inl same ↦ subst (λ (x : List ℤ). (length x ≡ w) × All InRange x) same (l, r)
+    | inr none ↦ absurd (contains_nothing y none)
+  ]
+]
+
+pub fit_at : (w : ℕ) (refs : List (Bor (List ℤ))) (k : ℕ) (d : Bor (List ℤ)) → AreFit w (rows_behind refs) → k < length refs → (length (get_or refs k d).now ≡ w) × All InRange (get_or refs k d).now
+fit_at w refs k d h l = h (get_or refs k d).now (in_map (λ r. r.now) refs (get_or refs k d) (Contains-get_or refs k d l))
+
+pub row_more : (refs : List (Bor (List ℤ))) (k : ℕ) (d : Bor (List ℤ)) (rows : List (List ℤ)) → k < length refs → rows ≡ rows_behind (take k refs) → rows ++ ((get_or refs k d).now ∷ []) ≡ rows_behind (take (k + 1) refs)
+row_more refs k d rows l e = sym (ap rows_behind (take_more refs k d l) ∙ map-append (λ x. x.now) (take k refs) (get_or refs k d ∷ []) ∙ ap (λ x. x ++ ((get_or refs k d).now ∷ [])) (sym e))
+
+pub ordered_list : (first second before after rows : List (List ℤ)) → before ≡ first ++ second → IsOrdered before after → rows ≡ after → IsListOf lex_cmp (λ z. Contains first z ⊎ Contains second z) rows
+ordered_list first second before after rows e h is = subst (λ l. IsListOf lex_cmp (λ z. Contains first z ⊎ Contains second z) l) (sym is) (record {
+  ascending = h.ascending;
+  members = λ z. (
+    λ c. Contains-append_cases first second z (subst (λ l. Contains l z) e ((h.members z).0 c)),
+    λ s. (h.members z).1 (subst (λ l. Contains l z) (sym e) (elim s [
+      | inl a ↦ Contains-append_left first second z a
+      | inr b ↦ Contains-append_right first second z b
+    ])),
+  );
+})
+
+pub ordered_pool : {E : Type 0} (first second before after rows : List (List ℤ)) (pool : Result PoolValue E) → before ≡ first ++ second → IsOrdered before after → rows ≡ after → IfOk pool (λ p. p.rows ≡ rows)
+    → IfOk pool (λ p. IsListOf lex_cmp (λ z. Contains first z ⊎ Contains second z) p.rows)
+ordered_pool first second before after rows (Ok p) e h is same = ordered_list first second before after p.rows e h (same ∙ is)
+ordered_pool first second before after rows (Err x) e h is same = tt

@@ -1,0 +1,9 @@
+use Rattle.std.proofs.Common.{◌≡◌, ◌++◌, take}
+use Rattle.stage_store.specs.Sorting.{rows_behind, AreFit}
+use Rattle.stage_store.proofs.order.take_rows.Given as goal
+
+abbrev pub invariant-loop-i : goal.invariant-loop-i
+invariant-loop-i l = record {
+  rows : rows_behind l.rows.items ≡ rows_behind l.fn.rows.items ++ take l.i l.pool.rows;
+  fit : AreFit l.pool.width (rows_behind l.rows.items);
+}

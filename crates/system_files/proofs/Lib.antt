@@ -1,0 +1,5 @@
+pub mod Cutting
+pub mod Negatives
+pub mod Kernels
+pub mod Bases
+pub mod Shaping

@@ -1,0 +1,61 @@
+-- The ends of lower layers as ends of a command.
+use Rattle.std.specs.Prelude.{◌≡◌, ◌≤◌, ℕ, Option, None, Some, Result, Ok, Err}
+use Rattle.outside.specs.Causes.{Rose}
+use Rattle.outside.specs.declared.ends.PutEnd.{PutEnd}
+use Rattle.outside.specs.declared.ends.PutEnd.TheVariants.{Failed, Memory as PutMemory}
+use Rattle.lift_run.specs.declared.ends.RunEnd.{RunEnd}
+use Rattle.lift_run.specs.declared.ends.RunEnd.TheVariants.{Overflow as RunOverflow, Pairs as RunPairs, Rows as RunRows, Memory as RunMemory}
+use Rattle.system_files.specs.declared.faults.InputStop.{InputStop}
+use Rattle.system_files.specs.declared.faults.InputStop.TheVariants as stop
+use Rattle.tool_words.specs.declared.jobs.Job.{Job}
+use Rattle.tool_words.specs.declared.jobs.WordEnd.{WordEnd}
+use Rattle.tool_words.specs.declared.jobs.WordEnd.TheVariants.{Usage as NoForm, Memory as NoMemory}
+use Rattle.tool_top.specs.declared.ends.Part.{Part}
+use Rattle.tool_top.specs.declared.ends.End.{End}
+use Rattle.tool_top.specs.declared.ends.End.TheVariants.{Done, Usage, Overflow, Pairs, Rows, Outside, Memory}
+use Rattle.tool_top.specs.declared.ends.Totals.{Totals}
+use Rattle.tool_top.specs.Plan.{Plan, part_of, answer_of}
+use Rattle.tool_top.specs.Expected.{ComesTo}
+use Rattle.tool_top.specs.Left.{Traces, Leaves}
+
+-- a refusal of this file
+abbrev pub end_at : Part → PutEnd → End
+end_at part Failed = Outside part
+end_at part PutMemory = Memory
+
+abbrev pub end_of_stop : InputStop → End
+end_of_stop (stop.Bad fault) = answer_of fault
+end_of_stop (stop.Failed source) = Outside (part_of source)
+end_of_stop stop.Memory = Memory
+
+abbrev pub end_of_run : RunEnd → End
+end_of_run (RunOverflow stage place) = Overflow stage place
+end_of_run (RunPairs stage norm needed) = Pairs stage norm needed
+end_of_run (RunRows stage norm count) = Rows stage norm count
+end_of_run RunMemory = Memory
+
+-- the words are refused
+abbrev pub end_of_words : WordEnd → End
+end_of_words NoForm = Usage
+end_of_words NoMemory = Memory
+
+-- a job was read as the words have it, or they are refused
+abbrev pub Asks : Option Job → Result Job WordEnd → Type 0
+Asks expected (Ok job) = expected ≡ Some job
+Asks expected (Err NoForm) = expected ≡ None
+Asks expected (Err NoMemory) = Unit {0}
+
+-- the end of a run that came to these numbers, or was stopped
+abbrev pub end_of : Result Totals End → End
+end_of (Ok t) = Done t.solutions t.pairs t.norm_total
+end_of (Err end) = end
+
+-- the end is the one that comes, and this is what it leaves
+pub record Ends (plan : Result Plan End) (t : Traces) (end : End) : Type 0 where
+  pub comes : ComesTo plan end
+  pub leaves : Leaves plan t end
+
+-- a fault is answered only where the count rose
+pub record HasSinkCause (before now : ℕ) (end : End) : Type 0 where
+  pub later : before ≤ now
+  pub failed : (part : Part) → end ≡ Outside part → Rose before now

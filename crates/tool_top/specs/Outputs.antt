@@ -1,0 +1,59 @@
+-- The files that a command writes.
+use Rattle.std.specs.Prelude.{◌≡◌, ℕ, ℤ, List, ◌∷◌, [], length, Option, Some}
+use Rattle.std.specs.List.{sum_by}
+use Rattle.outside.specs.Files.{Files}
+use Rattle.int_vector.specs.Vectors.{norm}
+use Rattle.lift_core.specs.Columns.{Every, Homogeneous, Inhomogeneous}
+use Rattle.lift_core.specs.declared.Tool.{Tool}
+use Rattle.lift_core.specs.declared.Tool.TheVariants.{Graver, Hilbert, Zsolve}
+use Rattle.system_shape.specs.Problem.{UserSystem, IsWantedForUser, IsWantedGraverForUser}
+use Rattle.solution_files.specs.Outputs.{written, text_of_rows}
+use Rattle.tool_top.specs.declared.ends.Part.{Part}
+use Rattle.tool_top.specs.declared.ends.Part.TheVariants.{Gra, Hil, Zhom, Zinhom}
+use Rattle.tool_top.specs.Names.{file_name}
+use Rattle.tool_top.specs.Plan.{Plan, project_of, user_of}
+
+-- an output file: which, its text, how many rows it has, and the sum of their norms
+pub record OutputFile : Type 0 where
+  pub part : Part
+  pub text : List ℕ
+  pub rows : ℕ
+  pub norms : ℕ
+
+-- the file of these rows of n entries
+abbrev pub file_of : Part → ℕ → List (List ℤ) → OutputFile
+file_of part n rows =
+    record { part = part; text = text_of_rows n rows; rows = length rows; norms = sum_by norm rows }
+
+-- the files of a command, each with exactly the wanted rows of the user's own system: the Graver basis, the Hilbert basis, or the minimal homogeneous and then the minimal inhomogeneous solutions
+abbrev pub AreOutputsOf : Tool → UserSystem → ℕ → List OutputFile → Type 0
+AreOutputsOf Graver U n files =
+    (rows : List (List ℤ)) × IsWantedGraverForUser U rows × (files ≡ file_of Gra n rows ∷ [])
+AreOutputsOf Hilbert U n files =
+    (rows : List (List ℤ)) × IsWantedForUser U Every rows × (files ≡ file_of Hil n rows ∷ [])
+AreOutputsOf Zsolve U n files =
+    (hom inhom : List (List ℤ)) × IsWantedForUser U Homogeneous hom
+    × IsWantedForUser U Inhomogeneous inhom
+    × (files ≡ file_of Zhom n hom ∷ file_of Zinhom n inhom ∷ [])
+
+abbrev pub AreOutputs : Plan → List OutputFile → Type 0
+AreOutputs p files = AreOutputsOf p.tool (user_of p) p.input.mat.cols files
+
+-- the project's files after each of these was written anew, in order
+abbrev pub written_all : List ℕ → List OutputFile → Files → Files
+written_all project [] files = files
+written_all project (f ∷ fs) files =
+    written_all project fs (written (file_name project f.part) f.text files)
+
+-- the output files hold exactly the texts of the wanted lists, and all other files are as before
+abbrev pub HasWritten : Plan → Files → Option Files → Type 0
+HasWritten p before after =
+    (outputs : List OutputFile) × AreOutputs p outputs
+    × (after ≡ Some (written_all (project_of p.job) outputs before))
+
+-- the numbers of the summary: all rows, and the sum of their norms
+abbrev pub rows_in : List OutputFile → ℕ
+rows_in files = sum_by (λ f. f.rows) files
+
+abbrev pub norms_in : List OutputFile → ℕ
+norms_in files = sum_by (λ f. f.norms) files

@@ -1,0 +1,12 @@
+pub mod CommandFacts
+pub mod Rules
+pub mod Uses
+pub mod Letters
+pub mod Steps
+pub mod Refusals
+pub mod WordSteps
+pub mod Walked
+pub mod Found
+pub mod Digits
+pub mod Texts
+pub mod Read
