@@ -12,6 +12,7 @@ use std::mem;
 
 /// How the backups stand, as plain data: the files, the names of which the first is next, the interval, and how many norms
 /// are left to the next backup. It is the state of a `Backup`, and is never made.
+#[derive(Drop)]
 pub struct BackupState {
     pub files: SureFolder,
     pub names: Words,
@@ -20,6 +21,7 @@ pub struct BackupState {
 }
 
 /// Writes a restart file into the folder after every so many closed norms, under two names in turn.
+#[derive(Drop)]
 pub struct Backup<'a, F> {
     alloc: Global,
     folder: &'a mut F,
