@@ -30,6 +30,36 @@ fn real_file_is_written_and_read(rt: HostRuntime) -> Result<(), Fail> {
     Ok(())
 }
 
+// The file's bytes after two folders, one after another, appended to it.
+fn append_anew<R: Files + AllocGlobal>(rt: &R) -> Result<(usize, [u8; 4]), PutEnd> {
+    let mut folder = DirFolder::new(rt);
+    folder.begin("anew.txt")?;
+    folder.append("anew.txt", b"ab")?;
+    DirFolder::new(rt).append("anew.txt", b"c\n")?;
+    let mut bytes = [0u8; 4];
+    let count = DirFolder::new(rt).read("anew.txt", 0, &mut bytes)?;
+    Ok((count, bytes))
+}
+
+// A handle that is opened anew appends behind the bytes that stand.
+#[test]
+fn new_handle_appends_at_the_end(rt: HostRuntime) -> Result<(), Fail> {
+    let found = append_anew(&rt)?;
+    fs::remove_file(&rt, "anew.txt")?;
+    assert_eq!(rt; found, (4, *b"abc\n"));
+    Ok(())
+}
+
+// A whole file that fits one piece takes one call for its length and one for its bytes.
+#[test]
+fn whole_file_takes_two_calls(rt: HostRuntime) -> Result<(), Fail> {
+    let mut folder = MemFolder::new(rt.alloc(), Vec::new(rt.alloc()));
+    folder.insert("f", b"12345")?;
+    let found = read_all(rt.alloc(), &mut folder, "f", 5).is_ok_and(|bytes| bytes.is_some());
+    assert_eq!(rt; (found, folder.calls()), (true, 2));
+    Ok(())
+}
+
 // Adds a thousand lines of five bytes.
 fn append_lines<F: Folder>(folder: &mut F, name: &str) -> Result<(), PutEnd> {
     for _ in 0..1_000 {

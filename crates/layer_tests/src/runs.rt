@@ -6,7 +6,7 @@ ghost use Rattle.reduce_tree.specs.Tree.{Fits};
 
 use int_vector::Visits;
 use lift_core::{System, Tool};
-use lift_run::{Limits, Place, RunEnd, run_system};
+use lift_run::{Limits, NoKeep, Place, RunEnd, run_system};
 use reduce_tree::Tree;
 use row_pool::{Pool, RowId};
 use stage_store::Finish;
@@ -79,6 +79,7 @@ fn told(alloc: Global, answer: &Result<Finish, RunEnd>) -> Result<String, AllocE
         Err(RunEnd::Rows { stage, norm, count }) => format!(in alloc;
             "rows {stage} {norm} {count}"
         ),
+        Err(RunEnd::Failed) => format!(in alloc; "failed"),
         Err(RunEnd::Memory) => format!(in alloc; "memory"),
     }
 }
@@ -100,7 +101,7 @@ fn ends_as_the_limits_say(rt: HostRuntime) -> Result<(), Fail> {
             pairs: pairs.min(Limits::MAX_PAIRS),
             rows: rows.clamp(1, Limits::MAX_ROWS),
         };
-        let answer = run_system(alloc, system(alloc, input)?, limits);
+        let answer = run_system(alloc, system(alloc, input)?, limits, &mut NoKeep);
         assert_eq!(rt; told(alloc, &answer)?.as_str(), want);
     }
     Ok(())
@@ -182,7 +183,7 @@ fn few_rows_are_compared(rt: HostRuntime) -> Result<(), Fail> {
     let signs = Vec::from_slice(alloc, &[2; 18])?;
     let caps = Vec::from_slice(alloc, &[None; 18])?;
     let system = System::build(Tool::Graver, 18, 18, sums_of_tables(alloc)?, signs, caps);
-    let Ok(finish) = run_system(alloc, system, Limits::default()) else {
+    let Ok(finish) = run_system(alloc, system, Limits::default(), &mut NoKeep) else {
         panic!(&rt; "the run does not finish");
     };
     let rows = all_with_zero(alloc, &finish.rows)?;

@@ -7,7 +7,7 @@ use Rattle.std.specs.FinMap.{insert}
 use Rattle.std.proofs.lemmas.List.{take_at, take-append-drop}
 use Rattle.outside.specs.Files.{Files, begun, appended, MayAppend, written, MayWrite}
 use Rattle.outside.specs.Inside.Writing.{IsPartWritten}
-use Rattle.outside.proofs.ShelfLemmas.{bytes_of-insert, insert-insert}
+use Rattle.outside.proofs.FileMaps.{bytes_of-insert, insert-insert}
 
 appended-written : (files : Files) (name front piece : List ℕ) → appended name piece (written name front files) ≡ written name (front ++ piece) files
 appended-written files name front piece =

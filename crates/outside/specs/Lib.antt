@@ -1,8 +1,8 @@
 pub mod Files
 pub mod Causes
 pub mod Ends
-pub mod Shelves
-pub mod Trials
+pub mod FileLists
+pub mod CountedCalls
 pub mod Reading
 pub mod Inside
 pub mod Pieces

@@ -1,4 +1,5 @@
-// The refusals of folders, sinks and readers of whole files.
+//! The refusals of folders, sinks and readers of whole files.
+
 ghost use Rattle.std.specs.Prelude.{◌≡◌};
 ghost use Rattle.outside.specs.declared.ends.PutEnd.TheVariants.{Memory};
 ghost use Rattle.outside.specs.Ends.{read_end};

@@ -1,4 +1,5 @@
-// The real folder and streams: the trusted edge, which tells no content.
+//! The real folder and streams: the trusted edge, which tells no content.
+
 ghost use Rattle.std.specs.Prelude.{None, length, ◌≤◌, ◌≡◌, OnErr};
 ghost use Rattle.std.specs.Io.{ReadsAtMost};
 ghost use Rattle.outside.specs.Causes.{Rose};

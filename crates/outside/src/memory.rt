@@ -1,11 +1,12 @@
-// A folder and a sink in memory that fail at listed calls.
+//! A folder and a sink in memory that fail at listed calls.
+
 ghost use Rattle.std.specs.Prelude.{◌≡◌, ◌≢◌, ◌≤◌, ◌+◌, ◌-◌, ◌^◌, ◌/◌, ◌↔◌, ℕ, List, [], ◌++◌, length, take, min, Contains, IsTrue, IsErr, IfOk, OnOk, OnErr, Some};
 ghost use Rattle.std.specs.FinMap.{empty, get, insert};
 ghost use Rattle.std.specs.Option.{option_map};
 ghost use Rattle.std.specs.Io.{ReadsAtMost};
 ghost use Rattle.outside.specs.Causes.{Rose, HasCause};
 ghost use Rattle.outside.specs.Files.{bytes_of, begun, appended, ReadsFrom};
-ghost use Rattle.outside.specs.Trials.{Trial, IsListed, tried, made, half};
+ghost use Rattle.outside.specs.CountedCalls.{CallCount, FailsNext, one_more_call, no_call_yet, half};
 
 use crate::{Folder, PutEnd, Sink, SureFolder, SureSink};
 use std::alloc::{AllocError, Global};
@@ -20,9 +21,9 @@ pub(crate) struct Schedule {
 }
 
 impl Model for Schedule {
-    ghost use Rattle.outside.specs.Trials.{Trial};
+    ghost use Rattle.outside.specs.CountedCalls.{CallCount};
 
-    ghost Value = { Trial };
+    ghost Value = { CallCount };
 
     ghost view = { λ s. record { fail = s.fail.items; calls = s.calls; faults = s.faults } };
 }
@@ -30,7 +31,7 @@ impl Model for Schedule {
 impl Schedule {
     // No call yet.
     fn new(fail: Vec<u64>) -> Schedule
-        ensures { result ≡ made fail.items }
+        ensures { result ≡ no_call_yet fail.items }
     {
         Schedule {
             fail,
@@ -41,8 +42,8 @@ impl Schedule {
 
     // Counts a call, and says whether it fails.
     fn next(&mut self) -> bool
-        ensures next { self.new ≡ tried self.old }
-        ensures fails { IsTrue result ↔ IsListed self.old }
+        ensures next { self.new ≡ one_more_call self.old }
+        ensures fails { IsTrue result ↔ FailsNext self.old }
         ensures later { self.old.faults ≤ self.new.faults }
         ensures rose { IsTrue result → Rose self.old.faults self.new.faults }
     {
@@ -56,7 +57,7 @@ impl Schedule {
 }
 
 /// A folder in memory whose calls of `Folder` are counted from 1, and of which the listed ones fail. A
-/// clause sees its files, and the trial of its calls.
+/// clause sees its files, and the count of its calls.
 #[derive(Drop)]
 pub struct MemFolder {
     files: SureFolder,
@@ -64,19 +65,19 @@ pub struct MemFolder {
 }
 
 impl Model for MemFolder {
-    ghost use Rattle.outside.specs.Trials.{Tested, tested_code};
+    ghost use Rattle.outside.specs.CountedCalls.{CountedFiles, counted_files_code};
 
-    ghost Value = { Tested };
+    ghost Value = { CountedFiles };
 
-    ghost coded = { tested_code };
+    ghost coded = { counted_files_code };
 
-    ghost view = { λ m. record { files = m.files; trial = m.schedule } };
+    ghost view = { λ m. record { files = m.files; count = m.schedule } };
 }
 
 impl MemFolder {
     /// A folder without files, whose calls of these numbers fail. It takes no memory.
     pub fn new(alloc: Global, fail: Vec<u64>) -> MemFolder
-        ensures { result ≡ record { files = empty; trial = made fail.items } }
+        ensures { result ≡ record { files = empty; count = no_call_yet fail.items } }
     {
         MemFolder {
             files: SureFolder::new(alloc),
@@ -102,7 +103,7 @@ impl MemFolder {
 
     /// How many calls of `Folder` there were. The number stops at 2^64-1.
     pub fn calls(&self) -> u64
-        ensures { result ≡ self.now.trial.calls }
+        ensures { result ≡ self.now.count.calls }
     {
         self.schedule.calls
     }
@@ -110,21 +111,21 @@ impl MemFolder {
 
 // Each call counts itself, and one whose number is listed counts a fault. `listed` and `unlisted` say
 // together that `Failed` is answered exactly there.
-#[tactic(auto, using(crate::proofs::TrialLemmas::sure_cause))]
+#[tactic(auto, using(crate::proofs::Counts::sure_cause))]
 impl Folder for MemFolder {
     ghost held = { λ m. Some m.files };
 
-    ghost faults = { λ m. m.trial.faults };
+    ghost faults = { λ m. m.count.faults };
 
     /// As of every folder. It takes no memory, so only a listed call is refused.
     fn size(&mut self, name: &str) -> Result<Option<u64>, PutEnd>
         ensures same { self.new.files ≡ self.old.files }
         ensures size { IfOk result (λ n. n ≡ option_map length (get self.old.files name.now)) }
-        ensures counted { self.new.trial ≡ tried self.old.trial }
-        ensures listed { IsListed self.old.trial → result ≡ Err PutEnd.Failed }
-        ensures unlisted { OnErr result (IsListed self.old.trial) }
+        ensures counted { self.new.count ≡ one_more_call self.old.count }
+        ensures listed { FailsNext self.old.count → result ≡ Err PutEnd.Failed }
+        ensures unlisted { OnErr result (FailsNext self.old.count) }
         ensures no_memory { result ≢ Err PutEnd.Memory }
-        ensures cause { HasCause self.old.trial.faults self.new.trial.faults result }
+        ensures cause { HasCause self.old.count.faults self.new.count.faults result }
     {
         if self.schedule.next() {
             return Err(PutEnd::Failed);
@@ -138,11 +139,11 @@ impl Folder for MemFolder {
         ensures bound { ReadsAtMost result buf.new }
         ensures bytes { IfOk result (λ n. ReadsFrom (bytes_of self.old.files name.now) at n buf.new) }
         ensures refused { OnErr result (buf.new ≡ buf.old) }
-        ensures counted { self.new.trial ≡ tried self.old.trial }
-        ensures listed { IsListed self.old.trial → result ≡ Err PutEnd.Failed }
-        ensures unlisted { OnErr result (IsListed self.old.trial) }
+        ensures counted { self.new.count ≡ one_more_call self.old.count }
+        ensures listed { FailsNext self.old.count → result ≡ Err PutEnd.Failed }
+        ensures unlisted { OnErr result (FailsNext self.old.count) }
         ensures no_memory { result ≢ Err PutEnd.Memory }
-        ensures cause { HasCause self.old.trial.faults self.new.trial.faults result }
+        ensures cause { HasCause self.old.count.faults self.new.count.faults result }
     {
         if self.schedule.next() {
             return Err(PutEnd::Failed);
@@ -154,10 +155,10 @@ impl Folder for MemFolder {
     fn begin(&mut self, name: &str) -> Result<(), PutEnd>
         ensures done { OnOk result (self.new.files ≡ begun name.now self.old.files) }
         ensures refused { OnErr result (self.new.files ≡ self.old.files) }
-        ensures counted { self.new.trial ≡ tried self.old.trial }
-        ensures listed { IsListed self.old.trial → result ≡ Err PutEnd.Failed }
-        ensures unlisted { result ≡ Err PutEnd.Failed → IsListed self.old.trial }
-        ensures cause { HasCause self.old.trial.faults self.new.trial.faults result }
+        ensures counted { self.new.count ≡ one_more_call self.old.count }
+        ensures listed { FailsNext self.old.count → result ≡ Err PutEnd.Failed }
+        ensures unlisted { result ≡ Err PutEnd.Failed → FailsNext self.old.count }
+        ensures cause { HasCause self.old.count.faults self.new.count.faults result }
     {
         if self.schedule.next() {
             return Err(PutEnd::Failed);
@@ -171,10 +172,10 @@ impl Folder for MemFolder {
         ensures done { OnOk result (self.new.files ≡ appended name.now bytes.now self.old.files) }
         ensures half { result ≡ Err PutEnd.Failed → self.new.files ≡ appended name.now (half bytes.now) self.old.files }
         ensures none { result ≡ Err PutEnd.Memory → self.new.files ≡ self.old.files }
-        ensures counted { self.new.trial ≡ tried self.old.trial }
-        ensures listed { IsListed self.old.trial → IsErr result }
-        ensures unlisted { result ≡ Err PutEnd.Failed → IsListed self.old.trial }
-        ensures cause { HasCause self.old.trial.faults self.new.trial.faults result }
+        ensures counted { self.new.count ≡ one_more_call self.old.count }
+        ensures listed { FailsNext self.old.count → IsErr result }
+        ensures unlisted { result ≡ Err PutEnd.Failed → FailsNext self.old.count }
+        ensures cause { HasCause self.old.count.faults self.new.count.faults result }
     {
         if self.schedule.next() {
             self.files.append(name, &bytes[..bytes.len() / 2])?;
@@ -185,7 +186,7 @@ impl Folder for MemFolder {
 }
 
 /// A sink in memory whose puts are counted from 1, and of which the listed ones fail. A clause sees its
-/// bytes, and the trial of its puts.
+/// bytes, and the count of its puts.
 #[derive(Drop)]
 pub struct MemSink {
     bytes: SureSink,
@@ -193,17 +194,17 @@ pub struct MemSink {
 }
 
 impl Model for MemSink {
-    ghost use Rattle.outside.specs.Trials.{TestedSink};
+    ghost use Rattle.outside.specs.CountedCalls.{CountedBytes};
 
-    ghost Value = { TestedSink };
+    ghost Value = { CountedBytes };
 
-    ghost view = { λ m. record { bytes = m.bytes; trial = m.schedule } };
+    ghost view = { λ m. record { bytes = m.bytes; count = m.schedule } };
 }
 
 impl MemSink {
     /// A sink without bytes, whose puts of these numbers fail. It takes no memory.
     pub fn new(alloc: Global, fail: Vec<u64>) -> MemSink
-        ensures { result ≡ record { bytes = []; trial = made fail.items } }
+        ensures { result ≡ record { bytes = []; count = no_call_yet fail.items } }
     {
         MemSink {
             bytes: SureSink::new(alloc),
@@ -219,11 +220,11 @@ impl MemSink {
     }
 }
 
-#[tactic(auto, using(crate::proofs::TrialLemmas::sure_cause))]
+#[tactic(auto, using(crate::proofs::Counts::sure_cause))]
 impl Sink for MemSink {
     ghost held = { λ m. Some m.bytes };
 
-    ghost faults = { λ m. m.trial.faults };
+    ghost faults = { λ m. m.count.faults };
 
     /// As of every sink. After `Failed` the first half of the bytes was added, rounded down, and after
     /// `Memory` none. A listed call is refused.
@@ -231,10 +232,10 @@ impl Sink for MemSink {
         ensures done { OnOk result (self.new.bytes ≡ self.old.bytes ++ bytes.now) }
         ensures half { result ≡ Err PutEnd.Failed → self.new.bytes ≡ self.old.bytes ++ half bytes.now }
         ensures none { result ≡ Err PutEnd.Memory → self.new.bytes ≡ self.old.bytes }
-        ensures counted { self.new.trial ≡ tried self.old.trial }
-        ensures listed { IsListed self.old.trial → IsErr result }
-        ensures unlisted { result ≡ Err PutEnd.Failed → IsListed self.old.trial }
-        ensures cause { HasCause self.old.trial.faults self.new.trial.faults result }
+        ensures counted { self.new.count ≡ one_more_call self.old.count }
+        ensures listed { FailsNext self.old.count → IsErr result }
+        ensures unlisted { result ≡ Err PutEnd.Failed → FailsNext self.old.count }
+        ensures cause { HasCause self.old.count.faults self.new.count.faults result }
     {
         if self.schedule.next() {
             self.bytes.put(&bytes[..bytes.len() / 2])?;

@@ -1,4 +1,5 @@
-// Reading a whole file of a folder.
+//! Reading a whole file of a folder.
+
 ghost use Rattle.std.specs.Prelude.{◌≡◌, ◌≤◌, ◌<◌, ◌+◌, length, IfOk, IfSome, OnOk};
 ghost use Rattle.std.specs.FinMap.{get};
 ghost use Rattle.outside.specs.Files.{bytes_of};

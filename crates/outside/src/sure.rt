@@ -1,11 +1,12 @@
-// A folder and a sink in memory that never fail. They may run out of memory.
+//! A folder and a sink in memory that never fail. They may run out of memory.
+
 ghost use Rattle.std.specs.Prelude.{◌≡◌, ◌≤◌, ◌++◌, [], length, MatchOption, IsOk, IfOk, IfErr, OnOk, OnErr, Ok, Some};
 ghost use Rattle.std.specs.FinMap.{empty, find, get, insert};
 ghost use Rattle.std.specs.Option.{option_map};
 ghost use Rattle.std.specs.Io.{ReadsAtMost};
 ghost use Rattle.outside.specs.Causes.{HasCause};
 ghost use Rattle.outside.specs.Files.{name_cmp, bytes_of, begun, appended, ReadsFrom};
-ghost use Rattle.outside.specs.Shelves.{entries_of, files_of, IsFirstAt};
+ghost use Rattle.outside.specs.FileLists.{entries_of, files_of, IsFirstAt};
 
 use crate::{Folder, PutEnd, Sink};
 use std::alloc::{AllocError, Global};
@@ -27,7 +28,7 @@ pub struct SureFolder {
 
 impl Model for SureFolder {
     ghost use Rattle.outside.specs.Files.{Files};
-    ghost use Rattle.outside.specs.Shelves.{files_of, files_code};
+    ghost use Rattle.outside.specs.FileLists.{files_of, files_code};
 
     ghost Value = { Files };
 

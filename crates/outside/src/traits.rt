@@ -1,4 +1,5 @@
-// Folders and sinks, by what they hold and how often they failed.
+//! Folders and sinks, by what they hold and how often they failed.
+
 ghost use Rattle.std.specs.Prelude.{◌≡◌, ℕ, List, ◌++◌, length, take, Option, is_some, IfOk, IfSome, OnOk, OnErr};
 ghost use Rattle.std.specs.Option.{option_map};
 ghost use Rattle.std.specs.FinMap.{get};
@@ -24,7 +25,8 @@ pub trait Folder {
     /// The file's length in bytes, or `None` exactly where there is no such file.
     fn size(&mut self, name: &str) -> Result<Option<u64>, PutEnd>
         ensures same { held self.new ≡ held self.old }
-        ensures size { IfSome (held self.old) (λ files. IfOk result (λ n. n ≡ option_map length (get files name.now))) }
+        ensures size { IfSome (held self.old)
+            (λ files. IfOk result (λ n. n ≡ option_map length (get files name.now))) }
         ensures cause { HasCause (faults self.old) (faults self.new) result };
 
     /// Puts some of the file's bytes from the place `at` on into `buf`, and gives their number. It is 0
@@ -33,7 +35,8 @@ pub trait Folder {
     fn read(&mut self, name: &str, at: u64, buf: &mut [u8]) -> Result<usize, PutEnd>
         ensures same { held self.new ≡ held self.old }
         ensures bound { ReadsAtMost result buf.new }
-        ensures bytes { IfSome (held self.old) (λ files. IfOk result (λ n. ReadsFrom (bytes_of files name.now) at n buf.new)) }
+        ensures bytes { IfSome (held self.old)
+            (λ files. IfOk result (λ n. ReadsFrom (bytes_of files name.now) at n buf.new)) }
         ensures refused { OnErr result (buf.new ≡ buf.old) }
         ensures cause { HasCause (faults self.old) (faults self.new) result };
 
@@ -47,8 +50,10 @@ pub trait Folder {
     /// Adds the bytes at the file's end, where an absent file counts as empty. After a refusal a prefix
     /// of them was added.
     fn append(&mut self, name: &str, bytes: &[u8]) -> Result<(), PutEnd>
-        ensures done { OnOk result (held self.new ≡ option_map (appended name.now bytes.now) (held self.old)) }
-        ensures refused { OnErr result (MayAppend name.now bytes.now (held self.old) (held self.new)) }
+        ensures done { OnOk result
+            (held self.new ≡ option_map (appended name.now bytes.now) (held self.old)) }
+        ensures refused { OnErr result
+            (MayAppend name.now bytes.now (held self.old) (held self.new)) }
         ensures told { is_some (held self.new) ≡ is_some (held self.old) }
         ensures cause { HasCause (faults self.old) (faults self.new) result };
 }
@@ -66,7 +71,8 @@ pub trait Sink {
     /// Adds the bytes. After a refusal a prefix was added.
     fn put(&mut self, bytes: &[u8]) -> Result<(), PutEnd>
         ensures done { OnOk result (held self.new ≡ append_known (held self.old) bytes.now) }
-        ensures refused { OnErr result ((k : ℕ) × (held self.new ≡ append_known (held self.old) (take k bytes.now))) }
+        ensures refused { OnErr result
+            ((k : ℕ) × (held self.new ≡ append_known (held self.old) (take k bytes.now))) }
         ensures told { is_some (held self.new) ≡ is_some (held self.old) }
         ensures cause { HasCause (faults self.old) (faults self.new) result };
 }

@@ -1,5 +1,5 @@
 use Rattle.std.proofs.Common.{◌≡◌, ◌≤◌, inl, inr, length, ap, arith, ◌∙◌}
-use Rattle.outside.proofs.ReadingLemmas.{front_step, front_whole, front_end, within_piece}
+use Rattle.outside.proofs.ReadPieces.{front_step, front_whole, front_end, within_piece}
 use Rattle.outside.proofs.reading.read_bytes.Goals as goal
 use Rattle.outside.proofs.reading.read_bytes.Goals.{else-loop-turn-test, then-loop-turn-test+then-rest-eq0, then-loop-turn-test+else-rest-eq0+in_ok-read_more+then-not-branch}
 

@@ -1,6 +1,6 @@
 use Rattle.std.proofs.Common.{◌≡◌, ◌≤◌, length, IfSome}
 use Rattle.outside.specs.Files.{bytes_of}
-use Rattle.outside.proofs.ReadingLemmas.{IsFront}
+use Rattle.outside.proofs.ReadPieces.{IsFront}
 use Rattle.outside.proofs.reading.read_bytes.Given as goal
 
 abbrev pub invariant-loop-turn : goal.invariant-loop-turn

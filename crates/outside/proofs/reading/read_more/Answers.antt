@@ -1,6 +1,6 @@
 use Rattle.std.proofs.Common.{◌≡◌, ◌≢◌, ◌++◌, length, take, IfSome, ap}
 use Rattle.outside.specs.Files.{bytes_of, ReadsFrom}
-use Rattle.outside.proofs.ReadingLemmas.{reads_more}
+use Rattle.outside.proofs.ReadPieces.{reads_more}
 use Rattle.outside.proofs.reading.read_more.Goals as goal
 
 pub returns-clause-more : goal.returns-clause-more

@@ -1,0 +1,89 @@
+//! The Keep that writes backups.
+
+ghost use Rattle.std.specs.Prelude.{◌≡◌, ◌≤◌, ◌∷◌, [], Option};
+ghost use Rattle.std.specs.Option.{option_map};
+
+use lift_run::Keep;
+use outside::{Folder, PutEnd, SureFolder, Words};
+use restart_file::write_restart;
+use stage_store::Stage;
+use std::alloc::Global;
+use std::mem;
+
+/// How the backups stand, as plain data: the files, the names of which the first is next, the interval, and how many norms
+/// are left to the next backup. It is the state of a `Backup`, and is never made.
+#[derive(Drop)]
+pub struct BackupState {
+    pub files: SureFolder,
+    pub names: Words,
+    pub interval: u32,
+    pub left: u32,
+}
+
+/// Writes a restart file into the folder after every so many closed norms, under two names in turn.
+#[derive(Drop)]
+pub struct Backup<'a, F> {
+    alloc: Global,
+    folder: &'a mut F,
+    next: &'a str,
+    other: &'a str,
+    interval: u32,
+    left: u32,
+}
+
+impl<'a, F: Folder> Backup<'a, F> {
+    /// No norm is closed yet. The first backup goes to the file `next`.
+    pub fn new(
+        alloc: Global,
+        folder: &'a mut F,
+        next: &'a str,
+        other: &'a str,
+        interval: u32,
+    ) -> Backup<'a, F>
+        requires { 1 ≤ interval }
+        ensures folder { result.folder.now ≡ folder.old }
+        ensures names { (result.next.now ≡ next.now) × (result.other.now ≡ other.now) }
+        ensures interval { (result.interval ≡ interval) × (result.left ≡ interval) }
+    {
+        Backup {
+            alloc,
+            folder,
+            next,
+            other,
+            interval,
+            left: interval,
+        }
+    }
+
+    /// The name of the file that the next backup goes to; after a refusal the one that was not written.
+    pub fn next_name(&self) -> &str
+        ensures { result.now ≡ self.now.next.now }
+    {
+        self.next
+    }
+}
+
+impl<'a, F: Folder> Keep for Backup<'a, F> {
+    type State = BackupState;
+
+    ghost use Rattle.backups.specs.Backups.{after_norm, MayBackUp};
+
+    ghost state = { λ b. option_map (λ files. record { files = files; names = b.next.now ∷ b.other.now ∷ []; interval = b.interval; left = b.left }) (F.held b.folder.now) };
+
+    ghost faults = { λ b. F.faults b.folder.now };
+
+    ghost after = { λ s stage. after_norm s stage };
+
+    ghost torn = { λ s stage t. MayBackUp s stage t };
+
+    fn norm_closed(&mut self, stage: &Stage) -> Result<(), PutEnd> {
+        if self.left > 1 {
+            self.left -= 1;
+            return Ok(());
+        }
+        write_restart(self.alloc, stage, self.folder, self.next)?;
+        mem::swap(&mut self.next, &mut self.other);
+        self.left = self.interval;
+        Ok(())
+    }
+}
