@@ -22,7 +22,7 @@ use Rattle.system_files.proofs.Negatives.{negated_zero}
 use Rattle.system_files.proofs.Kernels.{kernel_closed, kernel_difference}
 use Rattle.system_files.proofs.Bases.{IsHalf, basis_is_half, half_has}
 use Rattle.circuit_tool.specs.Circuits.{IsWithinSupport, IsStrictlyWithin, scaled, IsCircuit, IsLeastRow, AreLeastRows, AreCircuits}
-use Rattle.circuit_tool.proofs.Supports.{support_below, support_trans, support_negated, test_support, support_misses, nonzero_entry}
+use Rattle.circuit_tool.proofs.Within.{support_below, support_trans, support_negated, test_support, support_misses, nonzero_entry}
 use Rattle.circuit_tool.proofs.Scaling.{length-scaled, norm-scaled, kernel_scaled, kernel_from_scaled, below_scaled, combined, combined_support, combined_at, length-combined, proportional, ratio_below, ratio_above, scaled_once, zero_scaled}
 use Rattle.circuit_tool.proofs.Coprime.{total_of_one}
 

@@ -1,4 +1,7 @@
-pub mod Supports
+pub mod Within
 pub mod Scaling
 pub mod Coprime
 pub mod Circuits
+pub mod Words
+pub mod Keeping
+pub mod Concluding

@@ -1,5 +1,5 @@
 // The rows of a matrix.
-ghost use Rattle.std.specs.Prelude.{◌≡◌, ◌<◌, [], length, All, slice_index_or};
+ghost use Rattle.std.specs.Prelude.{◌≡◌, ◌<◌, ◌^◌, [], length, All, slice_index_or};
 ghost use Rattle.int_vector.specs.Range.{InRange};
 ghost use Rattle.system_files.specs.Kernel.{rows_in};
 
@@ -10,6 +10,7 @@ use mat_files::Grid;
 pub fn row_count(grid: &Grid) -> usize
     ensures count { result ≡ length (rows_in grid.now) }
     ensures rows { result ≡ grid.now.rows }
+    ensures small { result < 2 ^ 32 }
 {
     grid.rows as usize
 }

@@ -56,3 +56,8 @@ line_of program parts = text_of_parts (program ∷ codes ": " ∷ (parts ++ (cod
 -- of a project's file
 abbrev pub file_line : List ℕ → List ℕ → List ℕ → List (List ℕ) → List ℕ
 file_line program project ending parts = text_of_parts (program ∷ codes ": " ∷ project ∷ ending ∷ codes ": " ∷ (parts ++ (codes "\n" ∷ [])))
+
+-- the line of a text, of the project's file where there is one
+abbrev pub message_in : List ℕ → List ℕ → Option (List ℕ) → List (List ℕ) → List ℕ
+message_in program project None parts = line_of program parts
+message_in program project (Some ending) parts = file_line program project ending parts

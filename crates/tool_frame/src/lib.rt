@@ -7,7 +7,7 @@ mod outputs;
 mod program;
 mod wordings;
 
-pub use lines::{put_file_line, put_line};
+pub use lines::put_message;
 pub use outputs::write_output;
 pub use program::Session;
 pub use wordings::{Limits, Wording, fault_wording, plain_wording, shape_wording};

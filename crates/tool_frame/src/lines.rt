@@ -1,9 +1,10 @@
 // The lines on standard error.
 ghost use Rattle.std.specs.Prelude.{◌≡◌, ◌∷◌, [], OnOk, OnErr};
+ghost use Rattle.std.specs.Option.{option_map};
 ghost use Rattle.std.specs.Io.KnownBytes.{append_known};
 ghost use Rattle.outside.specs.Causes.{HasCause};
 ghost use Rattle.outside.specs.Pieces.{MayPut};
-ghost use Rattle.tool_frame.specs.Wordings.{digits_in, words_in, line_of, file_line};
+ghost use Rattle.tool_frame.specs.Wordings.{digits_in, words_in, line_of, file_line, message_in};
 
 use crate::Wording;
 use itoa::Buffer;
@@ -82,8 +83,8 @@ fn put_file_texts<'a, S: Sink>(
     )
 }
 
-/// Puts the line `PROGRAM: TEXT`, piece by piece. After a refusal a prefix of it was put.
-pub fn put_line<S: Sink>(sink: &mut S, program: &str, wording: &Wording) -> Result<(), PutEnd>
+// Puts the line `PROGRAM: TEXT`, piece by piece. After a refusal a prefix of it was put.
+fn put_line<S: Sink>(sink: &mut S, program: &str, wording: &Wording) -> Result<(), PutEnd>
     ensures done { OnOk result (S.held sink.new ≡ append_known (S.held sink.old) (line_of program.now (words_in wording.now))) }
     ensures refused { OnErr result (MayPut (line_of program.now (words_in wording.now)) (S.held sink.old) (S.held sink.new)) }
     ensures cause { HasCause (S.faults sink.old) (S.faults sink.new) result }
@@ -101,9 +102,9 @@ pub fn put_line<S: Sink>(sink: &mut S, program: &str, wording: &Wording) -> Resu
     )
 }
 
-/// Puts the line `PROGRAM: FILE: TEXT` for the project's file with this ending, piece by piece. After a refusal a prefix
-/// of it was put.
-pub fn put_file_line<S: Sink>(
+// Puts the line `PROGRAM: FILE: TEXT` for the project's file with this ending, piece by piece. After a refusal a prefix
+// of it was put.
+fn put_file_line<S: Sink>(
     sink: &mut S,
     program: &str,
     project: &str,
@@ -127,4 +128,23 @@ pub fn put_file_line<S: Sink>(
         digits(&mut second, wording.second),
         wording.after,
     )
+}
+
+/// Puts the line `PROGRAM: TEXT`, or, for the project's file with this ending, `PROGRAM: FILE: TEXT`. After a refusal a
+/// prefix of it was put.
+pub fn put_message<S: Sink>(
+    sink: &mut S,
+    program: &str,
+    project: &str,
+    file: Option<&'static str>,
+    wording: &Wording,
+) -> Result<(), PutEnd>
+    ensures done { OnOk result (S.held sink.new ≡ append_known (S.held sink.old) (message_in program.now project.now (option_map (λ e. e.now) file.entry) (words_in wording.now))) }
+    ensures refused { OnErr result (MayPut (message_in program.now project.now (option_map (λ e. e.now) file.entry) (words_in wording.now)) (S.held sink.old) (S.held sink.new)) }
+    ensures cause { HasCause (S.faults sink.old) (S.faults sink.new) result }
+{
+    match file {
+        Some(ending) => put_file_line(sink, program, project, ending, wording),
+        None => put_line(sink, program, wording),
+    }
 }

@@ -1,4 +1,4 @@
--- Supports: what is below a vector has its support within it, and a support within another can be tested.
+-- Supports within one another: what is below a vector has its support within it, and a support within another can be tested.
 use Rattle.std.proofs.Common.{◌≡◌, ℕ, zero, suc, ◌<◌, List, [], ◌∷◌, length, get_or, ap, arith, inl, inr, ◌⊎◌}
 use Rattle.std.specs.Prelude.{ℤ, pos, neg_ℤ, nat_abs}
 use Rattle.std.proofs.lemmas.Int.{ints}
