@@ -23,3 +23,5 @@ mod texts;
 mod trees;
 #[cfg(test)]
 mod vectors;
+#[cfg(test)]
+mod words;
