@@ -1,10 +1,10 @@
 -- Buckets: what a word rules out, and the words once one row more is filed.
 -- A word is true of each row of its group, so where the bounds do not admit it they admit no row of the group.
-use Rattle.std.proofs.Common.{◌≡◌, ◌≢◌, ℕ, zero, suc, ◌+◌, ◌-◌, ◌*◌, ◌/◌, ◌%◌, ◌≤◌, ◌<◌, List, [], ◌∷◌, ◌++◌, false, refl, length, get_or, take, drop, sym, ap, ◌∙◌, subst, arith, inl, inr, length-append, ◌⊎◌}
+use Rattle.std.proofs.Common.{◌≡◌, ◌≢◌, ℕ, zero, suc, ◌+◌, ◌-◌, ◌/◌, ◌%◌, ◌≤◌, ◌<◌, List, [], ◌∷◌, ◌++◌, false, length, get_or, take, drop, sym, ap, ◌∙◌, subst, arith, inl, inr, length-append, ◌⊎◌}
 use Rattle.std.specs.Prelude.{ℤ, bit_and, min}
 use Rattle.std.specs.Bool.{IsTrue}
 use Rattle.std.specs.List.{AllByRecursion}
-use Rattle.std.proofs.lemmas.Bool.{cases_lt, cases_eq}
+use Rattle.std.proofs.lemmas.Bool.{cases_lt}
 use Rattle.std.proofs.lemmas.List.{take_all, get_or_append_left, get_or-take, length-take, length-drop, get_or-drop}
 use Rattle.std.proofs.Math.Seq.{get_or-append_seam}
 use Rattle.int_vector.specs.Vectors.{◌⊑◌}

@@ -1,9 +1,9 @@
 -- The fields of a tree after one row more or less: each bucket has what is filed in it, and each key leads to its bucket.
-use Rattle.std.proofs.Common.{◌≡◌, ℕ, zero, suc, ◌+◌, ◌-◌, ◌≤◌, ◌<◌, List, [], ◌∷◌, ◌++◌, length, get_or, set, take, map, true, false, cond, sym, refl, ap, ◌∙◌, subst, arith, inl, inr, length-append, length-set}
+use Rattle.std.proofs.Common.{◌≡◌, ℕ, zero, suc, ◌+◌, ◌-◌, ◌≤◌, ◌<◌, List, [], ◌∷◌, ◌++◌, length, get_or, set, take, true, false, cond, sym, refl, ap, ◌∙◌, subst, arith, inl, inr, length-append, length-set}
 use Rattle.std.specs.Prelude.{ℤ, ◌==◌}
-use Rattle.std.specs.List.{AllByRecursion, filter}
+use Rattle.std.specs.List.{AllByRecursion}
 use Rattle.std.proofs.lemmas.Bool.{cases_eq, eq-eqb, ne_eqb}
-use Rattle.std.proofs.lemmas.List.{append-nil, get_or_default, get_or-set_same, get_or-set_other, set-get_or}
+use Rattle.std.proofs.lemmas.List.{get_or_default, get_or-set_same, get_or-set_other}
 use Rattle.reduce_tree.specs.declared.index.Index.{Index}
 use Rattle.reduce_tree.specs.declared.items.Key.{Key}
 use Rattle.reduce_tree.specs.declared.tree.Filed.{Filed}
@@ -204,13 +204,13 @@ tree_filed width levels b fs filed f key index new old bucket s h inside leads e
     (tree_more width levels fs f index new old bucket (subst (λ n. IsSet index new n bucket) (sym e) s) h (subst (λ n. n < bucket_count index) (sym e) inside)
     (subst (λ j. Leads index j f.bucket) (sym k) (subst (λ n. Leads index key n) (sym e) leads)) few (subst (λ n. old ≡ get_or index.buckets.items n old) (sym e) is) more)
 
-pub filed_stands : (levels place : ℕ) (rows : List (List ℤ)) (row : List ℤ) (f : Filed) (key : Key) → row ≡ get_or rows place [] → place < length rows → f.place ≡ place → f.key ≡ key → IsKeyOf row key → f.size ≡ size_of row → f.bits ≡ signature_of levels row
+pub filed_stands : (levels place : ℕ) (rows : List (List ℤ)) (row : List ℤ) (f : Filed) (key : Key) → row ≡ get_or rows place [] → place < length rows → f.place ≡ place → f.key ≡ key → IsKeyOf row f.bits key → f.size ≡ size_of row → f.bits ≡ signature_of levels row
     → StandsAt levels rows f
 filed_stands levels place rows row f key r l p k of size bits =
     let there : row ≡ get_or rows f.place [] = r ∙ ap (λ i. get_or rows i []) (sym p) in
     record {
       inside = subst (λ i. i < length rows) (sym p) l;
-      key = subst (λ u. IsKeyOf u f.key) there (subst (IsKeyOf row) (sym k) of);
+      key = subst (λ u. IsKeyOf u f.bits f.key) there (subst (IsKeyOf row f.bits) (sym k) of);
       size = size ∙ ap size_of there;
       bits = bits ∙ ap (signature_of levels) there;
     }

@@ -12,7 +12,7 @@ use Rattle.reduce_tree.specs.Tree.{TreeValue, place_of, places_of, StandsAt, Fit
 stands_same : (levels : ℕ) (rows other : List (List ℤ)) (f : Filed) → StandsAt levels rows f → f.place < length other → get_or other f.place [] ≡ get_or rows f.place [] → StandsAt levels other f
 stands_same levels rows other f s inside e = record {
   inside = inside;
-  key = subst (λ r. IsKeyOf r f.key) (sym e) s.key;
+  key = subst (λ r. IsKeyOf r f.bits f.key) (sym e) s.key;
   size = s.size ∙ ap size_of (sym e);
   bits = s.bits ∙ ap (λ r. signature_of levels r) (sym e);
 }

@@ -1,7 +1,7 @@
 -- The tree: what is filed is marked for a search, and a search of two parts is a search of all.
 -- A row below z is in part 0 or in that of z, and z has each of its classes. So the tiers lead the search to its bucket.
-use Rattle.std.proofs.Common.{◌≡◌, ℕ, zero, suc, ◌<◌, ◌≤◌, List, [], ◌∷◌, length, get_or, Bool, true, false, cond, sym, refl, ap, ◌∙◌, subst, arith, inl, inr, Some, None, Option}
-use Rattle.std.specs.Prelude.{ℤ, pos, map, bit_and, MatchOption, ◌==◌}
+use Rattle.std.proofs.Common.{◌≡◌, ℕ, zero, suc, ◌*◌, ◌%◌, ◌^◌, ◌<◌, ◌≤◌, List, [], ◌∷◌, length, get_or, Bool, true, false, cond, sym, refl, ap, ◌∙◌, subst, arith, inl, inr, Some, None, Option}
+use Rattle.std.specs.Prelude.{ℤ, map, bit_and, bit_or, MatchOption, ◌==◌}
 use Rattle.std.specs.Int.{bit_at, bit_not, w128}
 use Rattle.std.specs.List.{AllByRecursion, Contains}
 use Rattle.std.proofs.lemmas.Bool.{eq-eqb}
@@ -16,11 +16,13 @@ use Rattle.reduce_tree.specs.Items.{part_of, size_of, IsClassOf}
 use Rattle.reduce_tree.specs.Signatures.{signature_of}
 use Rattle.reduce_tree.specs.Tree.{TreeValue, place_of, places_of, StandsAt, Fits, AreNotBelow, AreNotBelowBefore}
 use Rattle.reduce_tree.specs.Inside.Buckets.{nothing_filed, IsMarked, IsNotBelow, AreNoneBelow, IsBelowAt}
-use Rattle.reduce_tree.specs.Inside.Filing.{Leads, second_of, third_of, in_bucket, IsTree}
-use Rattle.reduce_tree.specs.Inside.Searches.{AreAllMarked, HasNoneIn, HasNoneUnderThird, HasNoneUnderSecond, HasNoneUnderFirst, IsBelowIn}
-use Rattle.reduce_tree.proofs.Bits.{part_meets_none}
+use Rattle.reduce_tree.specs.Inside.Filing.{Leads, in_bucket, IsTree}
+use Rattle.reduce_tree.specs.Inside.Searches.{AreAllMarked, HasNoneIn, HasNoneUnderFirst, IsBelowIn}
+use Rattle.std.proofs.lemmas.Nat.Bits.{bit_at-lt, bit_at_set_same}
+use Rattle.reduce_tree.specs.Bits.{IsPartOf}
+use Rattle.reduce_tree.proofs.Bits.{part_meets_none, set_kept}
 use Rattle.reduce_tree.proofs.Buckets.{filed_at}
-use Rattle.reduce_tree.proofs.Filing.{class_above, part_above, size_above}
+use Rattle.reduce_tree.proofs.Filing.{part_above, size_above}
 use Rattle.reduce_tree.proofs.Signatures.{signature_fits, signature_part}
 
 abbrev pub tree_value : ℕ → ℕ → List Filed → TreeValue
@@ -69,9 +71,17 @@ place_filed b id k (f ∷ filed) l e = go (λ j m g. place_filed b id j filed m 
 pub fits_rows : (t : TreeValue) (width levels : ℕ) (filed : List Filed) (pool : PoolValue) → tree_value width levels filed ≡ t → Fits t pool → AllByRecursion (StandsAt levels pool.rows) filed
 fits_rows t width levels filed pool e fits = (subst (λ v. Fits v pool) (sym e) fits).rows
 
+-- a class by a part of a signature is one by the whole
+class_above : (a b c : ℕ) → IsPartOf a b → IsClassOf a c → IsClassOf b c
+class_above a b c h (inl e) = inl e
+class_above a b c h (inr e) = inr (both (bit_at a c) (bit_at b c) (h c) e (bit_at-lt b c))
+  where
+    both : (x y : ℕ) → x ≤ y → x ≡ 1 → y < 2 → y ≡ 1
+    both x y l e m = omega arith
+
 -- ---- the bounds of a search for a row below z
 pub record IsBoundsOf (levels : ℕ) (z : List ℤ) (bounds : Bounds) : Type 0 where
-  pub classes : (c : ℕ) → IsClassOf z c → bit_at bounds.classes c ≡ 1
+  pub classes : (c : ℕ) → IsClassOf (signature_of levels z) c → bit_at bounds.classes c ≡ 1
   pub outside : bounds.outside ≡ bit_not w128 (signature_of levels z)
   pub size : bounds.size ≡ size_of z
 
@@ -102,7 +112,8 @@ module _ (width levels : ℕ) (filed : List Filed) (index : Index) (tree : IsTre
   none_of of stands first second k l = λ before below.
       let s : StandsAt levels rows (get_or filed k nothing_filed) = filed_at (StandsAt levels rows) filed k stands l in
       let leads : Leads index (get_or filed k nothing_filed).key (get_or filed k nothing_filed).bucket = filed_at (λ f. Leads index f.key f.bucket) filed k tree.leads l in
-      let has : (c : ℕ) → IsClassOf (get_or rows (get_or filed k nothing_filed).place []) c → bit_at bounds.classes c ≡ 1 = λ c h. of.classes c (class_above (get_or rows (get_or filed k nothing_filed).place []) z c below h) in
+      let has : (c : ℕ) → IsClassOf (get_or filed k nothing_filed).bits c → bit_at bounds.classes c ≡ 1 =
+      λ c h. of.classes c (class_above (get_or filed k nothing_filed).bits (signature_of levels z) c (subst (λ b. IsPartOf b (signature_of levels z)) (sym s.bits) (signature_part levels 0 (get_or rows (get_or filed k nothing_filed).place []) z below)) h) in
       let none : HasNoneUnderFirst index rows z bounds (get_or filed k nothing_filed).key.part =
       elim (part_above (get_or rows (get_or filed k nothing_filed).place []) z below) [
         | inl e ↦ subst (λ n. HasNoneUnderFirst index rows z bounds n) (sym (s.key.part ∙ e)) first
@@ -162,8 +173,12 @@ whole_result None t pool z end fits e none = λ i c below. none i c (subst (λ n
 whole_result (Some id) t pool z end fits e found = (found.0, found.2)
 
 -- ---- the bounds as the search makes them
-abbrev pub bounds_with : ℕ → ℕ → ℕ → ℕ → Bounds
-bounds_with classes signature size end = record { classes = classes; outside = bit_not w128 signature; size = size; end = end }
+abbrev pub bounds_with : ℕ → ℕ → ℕ → Bounds
+bounds_with bits size end = record { classes = bit_or bits (1 * 2 ^ 127 % 2 ^ 128); outside = bit_not w128 bits; size = size; end = end }
 
-pub are_bounds : (levels : ℕ) (z : List ℤ) (classes signature size end : ℕ) → ((c : ℕ) → IsClassOf z c → bit_at classes c ≡ 1) → signature ≡ signature_of levels z → size ≡ size_of z → IsBoundsOf levels z (bounds_with classes signature size end)
-are_bounds levels z classes signature size end all s n = record { classes = all; outside = ap (bit_not w128) s; size = n }
+pub are_bounds : (levels : ℕ) (z : List ℤ) (bits size end : ℕ) → bits ≡ signature_of levels z → size ≡ size_of z → IsBoundsOf levels z (bounds_with bits size end)
+are_bounds levels z bits size end s n = record { classes = λ c h. classes c (subst (λ b. IsClassOf b c) (sym s) h); outside = ap (bit_not w128) s; size = n }
+  where
+    classes : (c : ℕ) → IsClassOf bits c → bit_at (bit_or bits (1 * 2 ^ 127 % 2 ^ 128)) c ≡ 1
+    classes c (inl e) = subst (λ i. bit_at (bit_or bits (1 * 2 ^ 127 % 2 ^ 128)) i ≡ 1) (sym e) (bit_at_set_same w128 bits 127 (omega arith))
+    classes c (inr e) = set_kept bits (1 * 2 ^ 127 % 2 ^ 128) c e

@@ -1,5 +1,6 @@
 -- Where a row is filed: in a part by the sign of its last entry, and there by the classes of its first items.
-use Rattle.std.specs.Prelude.{◌≡◌, ◌≢◌, ◌⊎◌, ℕ, zero, suc, ◌+◌, ◌-◌, ◌*◌, ◌%◌, ◌<◌, List, [], ◌∷◌, ℤ, pos, negsuc, nat_abs, min, length, slice_index_or}
+use Rattle.std.specs.Prelude.{◌≡◌, ◌⊎◌, ℕ, zero, suc, ◌+◌, ◌-◌, ◌*◌, List, ℤ, pos, negsuc, nat_abs, min, length, slice_index_or}
+use Rattle.std.specs.Int.{bit_at}
 use Rattle.reduce_tree.specs.declared.items.Key.{Key}
 
 -- an item is a column with a sign: 2 c for entries of column c that are not below 0, and 2 c + 1 for those below
@@ -7,15 +8,9 @@ abbrev pub item_at : ℕ → ℤ → ℕ
 item_at column (pos n) = 2 * column
 item_at column (negsuc n) = 2 * column + 1
 
--- the class of an item is a number from 1 to 127; up to a width of 63 each item has a class of its own
-abbrev pub class_at : ℕ → ℤ → ℕ
-class_at column x = 1 + item_at column x % 127
-
--- 0, or the class of the item of an entry that is not 0
-abbrev pub IsClassOf : List ℤ → ℕ → Type 0
-IsClassOf row c =
-    (c ≡ 0)
-    ⊎ ((j : ℕ) × (j < length row) × (slice_index_or row j (pos 0) ≢ pos 0) × (c ≡ class_at j (slice_index_or row j (pos 0))))
+-- a class of a row is 127, which each row has, or the number of a bit of its signature
+abbrev pub IsClassOf : ℕ → ℕ → Type 0
+IsClassOf bits c = (c ≡ 127) ⊎ (bit_at bits c ≡ 1)
 
 -- the last entry, and 0 where there is none
 abbrev pub last_of : List ℤ → ℤ
@@ -34,9 +29,9 @@ part_of row = part_at (last_of row)
 abbrev pub size_of : List ℤ → ℕ
 size_of row = min (nat_abs (last_of row)) 4294967295
 
--- a row's part, and three classes that it has
-pub record IsKeyOf (row : List ℤ) (key : Key) : Type 0 where
+-- the part of a row, and three classes that it has by its signature
+pub record IsKeyOf (row : List ℤ) (bits : ℕ) (key : Key) : Type 0 where
   pub part : key.part ≡ part_of row
-  pub first : IsClassOf row key.first
-  pub second : IsClassOf row key.second
-  pub third : IsClassOf row key.third
+  pub first : IsClassOf bits key.first
+  pub second : IsClassOf bits key.second
+  pub third : IsClassOf bits key.third

@@ -24,7 +24,7 @@ places_of t = map place_of t.filed
 -- the place is one of the rows, and what is filed of the row there is true of it
 pub record StandsAt (levels : ℕ) (rows : List (List ℤ)) (f : Filed) : Type 0 where
   pub inside : f.place < length rows
-  pub key : IsKeyOf (slice_index_or rows f.place []) f.key
+  pub key : IsKeyOf (slice_index_or rows f.place []) f.bits f.key
   pub size : f.size ≡ size_of (slice_index_or rows f.place [])
   pub bits : f.bits ≡ signature_of levels (slice_index_or rows f.place [])
 

@@ -1,14 +1,13 @@
 //! Where a row is filed: in a part by the sign of its last entry, and there by the classes of its first items.
 //!
 //! An item is a column with a sign: number 2 c for entries of column c that are not below 0, and 2 c + 1 for those below.
-//! A class is a number from 1 to 127 that an item has. Up to a width of 63 each item has a class of its own; in wider rows
-//! some share one, and a search looks at more rows than it need.
+//! The class of an item is the number of its first mark in a signature. In rows of more than 64 entries some items share
+//! one, and a search looks at more rows than it need.
 
 ghost use Rattle.std.specs.Prelude.{◌≡◌, ◌≢◌, ◌+◌, ◌*◌, ◌<◌, ◌≤◌, ℕ, pos, length, slice_index_or};
-ghost use Rattle.std.specs.Int.{bit_at};
-ghost use Rattle.reduce_tree.specs.Items.{item_at, class_at, part_at, part_of, size_of, IsClassOf, IsKeyOf};
+ghost use Rattle.reduce_tree.specs.Items.{item_at, part_at, part_of, size_of, IsClassOf, IsKeyOf};
 
-/// A row's part, and the classes of its first three items: 0 for each that it does not have.
+/// A row's part, and the classes of its first three items: 127 for each that it does not have.
 #[derive(Clone, Copy)]
 pub struct Key {
     pub part: u8,
@@ -26,33 +25,11 @@ pub fn item_at(column: usize, entry: i64) -> usize
     2 * column + usize::from(entry < 0)
 }
 
-/// The class of the item of an entry of a column.
-fn class_at(column: usize, entry: i64) -> u8
-    requires { column < 130 }
-    ensures value { result ≡ class_at column entry }
-    ensures most { result < 128 }
-{
-    (1 + item_at(column, entry) % 127) as u8
-}
-
-/// A bit for 0, and for each class that an entry of the row has that is not 0.
-pub fn classes_of(row: &[i64]) -> u128
-    requires { length row.now ≤ 130 }
-    ensures { (c : ℕ) → IsClassOf row.now c → bit_at result c ≡ 1 }
-{
-    let mut classes = 1;
-    for column in 0..row.len() {
-        if row[column] != 0 {
-            classes |= 1_u128 << class_at(column, row[column]);
-        }
-    }
-    classes
-}
-
-/// The key of a row.
-pub fn key_of(row: &[i64]) -> Key
-    requires { length row.now ≤ 130 }
-    ensures key { IsKeyOf row.now result }
+/// The key of a row with this signature, for which each item has marks for `levels` thresholds.
+pub fn key_of(row: &[i64], levels: usize, bits: u128) -> Key
+    requires narrow { length row.now ≤ 130 }
+    requires levels { levels ≤ 16 }
+    ensures key { IsKeyOf row.now bits result }
     ensures first { result.first < 128 }
     ensures second { result.second < 128 }
     ensures third { result.third < 128 }
@@ -62,9 +39,9 @@ pub fn key_of(row: &[i64]) -> Key
     let third = first_from(row, second + 1);
     Key {
         part: part_of(row),
-        first: class_in(row, first),
-        second: class_in(row, second),
-        third: class_in(row, third),
+        first: class_in(row, first, levels, bits),
+        second: class_in(row, second, levels, bits),
+        third: class_in(row, third, levels, bits),
     }
 }
 
@@ -83,17 +60,20 @@ fn first_from(row: &[i64], from: usize) -> usize
     row.len()
 }
 
-/// The class of a row's entry in a column: 0 where there is none, or where it is 0.
-fn class_in(row: &[i64], column: usize) -> u8
-    requires { length row.now ≤ 130 }
-    ensures class { IsClassOf row.now result }
+/// The class of the item of a row's entry in a column, and 127 where there is no such entry.
+fn class_in(row: &[i64], column: usize, levels: usize, bits: u128) -> u8
+    requires narrow { length row.now ≤ 130 }
+    requires levels { levels ≤ 16 }
+    ensures class { IsClassOf bits result }
     ensures most { result < 128 }
 {
-    if column < row.len() && row[column] != 0 {
-        class_at(column, row[column])
-    } else {
-        0
+    if column < row.len() {
+        let class = item_at(column, row[column]) * levels % 128;
+        if (bits >> class) & 1 == 1 {
+            return class as u8;
+        }
     }
+    127
 }
 
 /// The part of a row: 0, 1 or 2, where its last entry is 0, above 0 or below 0.

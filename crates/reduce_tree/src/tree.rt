@@ -4,13 +4,12 @@ ghost use Rattle.std.specs.Prelude.{◌≡◌, ◌+◌, ◌<◌, ◌≤◌, ◌^
 ghost use Rattle.std.specs.List.{Contains};
 ghost use Rattle.int_vector.specs.Vectors.{◌⊑◌};
 ghost use Rattle.row_pool.specs.Rows.{PoolValue};
-ghost use Rattle.reduce_tree.specs.Items.{size_of, IsKeyOf};
-ghost use Rattle.reduce_tree.specs.Signatures.{signature_of};
+ghost use Rattle.reduce_tree.specs.Items.{size_of};
 ghost use Rattle.reduce_tree.specs.Inside.Bounds.{word_of};
 
 use crate::bounds::{Bounds, Word};
 use crate::index::Index;
-use crate::items::{Key, classes_of, key_of, part_of, size_of};
+use crate::items::{Key, key_of, part_of, size_of};
 use crate::signature::signature;
 use int_vector::Visits;
 use row_pool::{Pool, RowId};
@@ -110,10 +109,11 @@ impl Tree {
             return Err(AllocError);
         }
         let row = pool.row(id);
-        let key = key_of(row);
+        let bits = signature(row, self.levels as usize);
+        let key = key_of(row, self.levels as usize, bits);
         let bucket = self.index.bucket_for(self.alloc, &key)?;
         self.filed.reserve(1)?;
-        let filed = file(row, id.0, bucket, key, self.levels as usize);
+        let filed = file(row, id.0, bucket, key, bits);
         self.index.buckets[bucket as usize].push(filed)?;
         self.filed.push_reserved(filed);
         Ok(())
@@ -143,10 +143,11 @@ impl Tree {
         requires width { length z.now ≡ pool.now.width }
         ensures { MatchOption result (AreNotBelowBefore end (places_of self.now) pool.now.rows z.now) (λ id. Contains (places_of self.now) id.0 × (id.0 < end) × (slice_index_or pool.now.rows id.0 [] ⊑ z.now)) }
     {
-        let levels = self.levels as usize;
+        let bits = signature(z, self.levels as usize);
         let bounds = Bounds {
-            classes: classes_of(z),
-            outside: !signature(z, levels),
+            // Each row has class 127.
+            classes: bits | 1_u128 << 127,
+            outside: !bits,
             size: size_of(z),
             end,
         };
@@ -180,20 +181,18 @@ impl Tree {
 }
 
 /// A place with what is filed of the row there.
-fn file(row: &[i64], place: u32, bucket: u32, key: Key, levels: usize) -> Filed
-    requires narrow { length row.now ≤ 130 }
-    requires levels { levels ≤ 16 }
+fn file(row: &[i64], place: u32, bucket: u32, key: Key, bits: u128) -> Filed
     ensures place { result.place ≡ place }
     ensures bucket { result.bucket ≡ bucket }
     ensures key { result.key ≡ key }
     ensures size { result.size ≡ size_of row.now }
-    ensures bits { result.bits ≡ signature_of levels row.now }
+    ensures bits { result.bits ≡ bits }
 {
     Filed {
         place,
         bucket,
         size: size_of(row),
         key,
-        bits: signature(row, levels),
+        bits,
     }
 }

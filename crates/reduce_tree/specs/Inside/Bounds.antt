@@ -1,5 +1,5 @@
 -- What a search asks of a row before it is compared, and what neighbours have in common.
-use Rattle.std.specs.Prelude.{◌≡◌, ℕ, ◌<◌, ◌≤◌, bit_and}
+use Rattle.std.specs.Prelude.{◌≡◌, ◌<◌, ◌≤◌, bit_and}
 use Rattle.reduce_tree.specs.declared.bounds.Bounds.{Bounds}
 use Rattle.reduce_tree.specs.declared.bounds.Word.{Word}
 use Rattle.reduce_tree.specs.declared.tree.Filed.{Filed}

@@ -1,6 +1,5 @@
 -- Buckets: filed rows in the order in which they came, and words that are true of groups of neighbours.
 use Rattle.std.specs.Prelude.{◌≡◌, ℕ, ◌/◌, ◌<◌, ℤ, List, [], length, slice_index_or}
-use Rattle.std.specs.List.{AllByRecursion}
 use Rattle.int_vector.specs.Vectors.{◌⊑◌}
 use Rattle.reduce_tree.specs.declared.bounds.Bounds.{Bounds}
 use Rattle.reduce_tree.specs.declared.bounds.Word.{Word}

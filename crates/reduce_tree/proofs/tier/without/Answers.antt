@@ -1,4 +1,3 @@
-use Rattle.std.proofs.Common.{rules}
 use Rattle.reduce_tree.proofs.Bits.{cleared_less, cleared_other}
 use Rattle.reduce_tree.proofs.tier.without.Goals as goal
 

@@ -1,4 +1,4 @@
-use Rattle.std.proofs.Common.{◌+◌, arith}
+use Rattle.std.proofs.Common.{arith}
 use Rattle.reduce_tree.proofs.Tiers.{put_kept, put_here}
 use Rattle.reduce_tree.proofs.tier.Branch.put.Goals as goal
 

@@ -2,6 +2,7 @@
 use Rattle.std.proofs.Common.{◌≡◌, ◌<◌, ◌+◌, ◌++◌, ◌∷◌, [], List, arith, ap, sym, subst, refl, length, ◌∙◌}
 use Rattle.std.specs.Vec.{with_item}
 use Rattle.reduce_tree.specs.declared.tree.Filed.{Filed}
+use Rattle.reduce_tree.specs.Items.{IsKeyOf}
 use Rattle.reduce_tree.specs.Inside.Filing.{IsTree}
 use Rattle.reduce_tree.proofs.Inserts.{tree_kept, tree_same, tree_filed, filed_stands, fits_more, bucket_few}
 use Rattle.reduce_tree.proofs.tree.Tree.insert.Goals as goal
@@ -37,5 +38,5 @@ pub returns-clause-fits : goal.returns-clause-fits
 returns-clause-fits c =
     let filed : c.push_reserved.new.self.items ≡ c.self.inside.filed.items ++ c.file-filed.result ∷ [] = c.push_reserved.ensures.items ∙ ap (λ (l : List Filed). l ++ c.file-filed.result ∷ []) c.reserve.ensures.items in
     fits_more c.args.self.now c.self.inside.width c.self.inside.levels c.self.inside.filed.items c.push_reserved.new.self.items c.file-filed.result c.args.pool.now c.self.view_is c.requires.fits filed
-    (filed_stands c.self.inside.levels c.args.id.0 c.args.pool.now.rows c.row-row.result.now c.file-filed.result c.key_of-key.result c.row-row.ensures.row c.requires.place c.file-filed.ensures.place c.file-filed.ensures.key c.key_of-key.ensures.key
-    c.file-filed.ensures.size c.file-filed.ensures.bits)
+    (filed_stands c.self.inside.levels c.args.id.0 c.args.pool.now.rows c.row-row.result.now c.file-filed.result c.key_of-key.result c.row-row.ensures.row c.requires.place c.file-filed.ensures.place c.file-filed.ensures.key
+    (subst (λ b. IsKeyOf c.row-row.result.now b c.key_of-key.result) (sym c.file-filed.ensures.bits) c.key_of-key.ensures.key) c.file-filed.ensures.size (c.file-filed.ensures.bits ∙ c.signature-bits.ensures))
