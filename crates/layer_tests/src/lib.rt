@@ -25,3 +25,5 @@ mod texts;
 mod trees;
 #[cfg(test)]
 mod vectors;
+#[cfg(test)]
+mod words;
