@@ -8,8 +8,8 @@ use Rattle.std.specs.List.{AllByRecursion}
 use Rattle.std.specs.Io.KnownBytes.{append_known}
 use Rattle.outside.specs.Files.{Files}
 use Rattle.outside.specs.Pieces.{MayPut}
-use Rattle.mat_files.specs.Matrices.{Matrix}
-use Rattle.mat_files.specs.Texts.{text_of}
+use Rattle.mat_files.specs.Cells.{Matrix}
+use Rattle.mat_files.specs.Printed.{text_of}
 use Rattle.solution_files.specs.Outputs.{written, MayWrite, grid_of, text_of_rows}
 use Rattle.solution_files.proofs.TextLemmas.{text_of-rows}
 use Rattle.system_files.specs.Kernel.{rows_in}

@@ -11,7 +11,8 @@ use Rattle.std.proofs.lemmas.List.Elements.{Contains-push_cases}
 use Rattle.std.proofs.lemmas.List.Folds.{Any-from_list_any, list_any-from_Any}
 use Rattle.std.proofs.lemmas.List.Kept.{Contains-from_dedup, Any-dedup}
 use Rattle.std.proofs.lemmas.List.Sorted.{Contains-permutation, IsPermutation-sym}
-use Rattle.lift_core.specs.Systems.{InRange, rows_of}
+use Rattle.int_vector.specs.Range.{InRange}
+use Rattle.lift_core.specs.Lists.{cut_rows}
 use Rattle.lift_core.proofs.Lists.{contains_cases, contains_head, contains_tail, contains_nothing, each_contained}
 use Rattle.lift_core.proofs.Orders.{in_filter, from_filter}
 use Rattle.solution_files.specs.Steps.{rows_behind, AreRows, IsOrdered}
@@ -160,7 +161,7 @@ are_least rows ordered kept same is = record {
 }
 
 -- ---- the rows
-pub rows_long : (m w : ℕ) (cells : List ℤ) → length cells ≡ m * w → AllByRecursion (λ r. length r ≡ w) (rows_of m w cells)
+pub rows_long : (m w : ℕ) (cells : List ℤ) → length cells ≡ m * w → AllByRecursion (λ r. length r ≡ w) (cut_rows m w cells)
 rows_long zero w cells h = tt
 rows_long (suc m) w cells h = (omega (arith, length-take w cells), rows_long m w (drop w cells) (omega (arith, length-drop w cells)))
 

@@ -7,8 +7,8 @@ use Rattle.outside.specs.declared.ends.PutEnd.TheVariants as put
 use Rattle.std.specs.Option.{option_map}
 use Rattle.std.specs.Io.KnownBytes.{append_known}
 use Rattle.outside.specs.Files.{Files}
-use Rattle.mat_files.specs.Matrices.{Matrix}
-use Rattle.mat_files.specs.Texts.{text_of}
+use Rattle.mat_files.specs.Cells.{Matrix}
+use Rattle.mat_files.specs.Printed.{text_of}
 use Rattle.solution_files.specs.Outputs.{written, MayWrite, text_of_rows}
 use Rattle.system_files.specs.Kernel.{rows_in, FirstOutside}
 use Rattle.tool_frame.specs.Wordings.{plain, with_number, fault_text, shape_text, message_in}

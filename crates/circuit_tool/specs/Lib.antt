@@ -8,7 +8,7 @@ pub use Rattle.outside.specs.Files
 pub use Rattle.outside.specs.Causes
 pub use Rattle.outside.specs.Pieces
 pub use Rattle.int_vector.specs.Vectors
-pub use Rattle.mat_files.specs.Matrices
+pub use Rattle.mat_files.specs.Cells
 pub use Rattle.lift_core.specs.Lists
 pub use Rattle.solution_files.specs.Outputs
 pub use Rattle.system_files.specs.Files as SystemFiles

@@ -3,7 +3,7 @@ use Rattle.std.specs.Prelude.{◌≡◌, ℕ, ◌==◌, if◌then◌else◌, Lis
 use Rattle.std.specs.FinMap.{get}
 use Rattle.outside.specs.Files.{Files}
 use Rattle.outside.specs.Names.{is_name}
-use Rattle.mat_files.specs.Matrices.{Matrix}
+use Rattle.mat_files.specs.Cells.{Matrix}
 use Rattle.system_files.specs.Files.{◌>>=◌, grid_in}
 use Rattle.system_files.specs.declared.faults.FileFault.{FileFault}
 use Rattle.system_files.specs.declared.faults.FileEnd.{FileEnd}

@@ -4,7 +4,8 @@ use Rattle.std.specs.Prelude.{ℤ, pos, ◌+ℤ◌, ◌-ℤ◌, ◌*ℤ◌}
 use Rattle.std.proofs.lemmas.Int.{ints}
 use Rattle.std.proofs.Math.Nat.{mul-le-mul_right}
 use borrow.Author.Differences.{up, down, same_in, product_is}
-use Rattle.int_vector.specs.Vectors.{add, subtract, IsWithin, ◌⊑◌}
+use Rattle.int_vector.specs.Operations.{add, subtract}
+use Rattle.int_vector.specs.Vectors.{IsWithin, ◌⊑◌}
 use Rattle.int_vector.proofs.Numbers.{within_parts, within_from_parts, parts_of_difference}
 use Rattle.decompose_tool.specs.Walks.{times}
 

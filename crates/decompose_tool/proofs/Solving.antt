@@ -3,15 +3,16 @@
 use Rattle.std.proofs.Common.{◌≡◌, ℕ, zero, suc, List, [], ◌∷◌, length, sym, ◌∙◌, subst, arith, inl, inr}
 use Rattle.std.specs.Prelude.{ℤ}
 use Rattle.std.specs.List.{AllByRecursion, Contains}
-use Rattle.int_vector.specs.Vectors.{subtract, ◌⊑◌, IsZero}
+use Rattle.int_vector.specs.Operations.{subtract}
+use Rattle.int_vector.specs.Vectors.{◌⊑◌, IsZero}
 use Rattle.int_vector.proofs.Vectors.{length-below}
-use Rattle.lift_core.specs.Minimal.{IsMinimal}
-use Rattle.lift_core.specs.Systems.{Solves}
+use Rattle.lift_core.specs.Systems.{IsMinimal, Solves}
 use Rattle.lift_core.proofs.Minimal.{IsClosed, minimal_below, zero_or_not}
 use Rattle.lift_core.proofs.Lists.{each_contained}
 use Rattle.lift_core.proofs.Systems.{solves_closed}
-use Rattle.system_shape.specs.Shape.{UserSystem, IsWellFormed, system_of, full_vector}
-use Rattle.system_shape.specs.Solutions.{IsUserSolution, IsMinimalForUser}
+use Rattle.system_shape.specs.Problem.{UserSystem, full_vector, IsUserSolution, IsMinimalForUser}
+use Rattle.system_shape.specs.Laws.{IsWellFormed}
+use Rattle.system_shape.specs.Slacks.{linear_system}
 use Rattle.system_shape.proofs.Law.{full_solves, is_full}
 use Rattle.system_shape.proofs.Solutions.{one_solution}
 use Rattle.decompose_tool.specs.Walks.{times, Term, IsWalk}
@@ -41,17 +42,17 @@ module _ (P : List ℤ → Type 0) (closed : IsClosed P) where
       ]
 
 module _ (U : UserSystem) (well : IsWellFormed U) where
-  solution_member : (d : ℤ) (y : List ℤ) → IsUserSolution U d y → Solves (system_of U) (length U.rows) (full_vector U d y)
-  solution_member d y s = full_solves U well d y s.home s.solves
+  solution_member : (d : ℤ) (y : List ℤ) → IsUserSolution U d y → Solves (linear_system U) (length U.rows) (full_vector U d y)
+  solution_member d y s = full_solves U well d y s.x0 s.solves
 
-  each_member : (us : List (List ℤ)) → AllByRecursion (λ u. (d : ℤ) × (y : List ℤ) × IsUserSolution U d y × (u ≡ full_vector U d y)) us → AllByRecursion (Solves (system_of U) (length U.rows)) us
+  each_member : (us : List (List ℤ)) → AllByRecursion (λ u. (d : ℤ) × (y : List ℤ) × IsUserSolution U d y × (u ≡ full_vector U d y)) us → AllByRecursion (Solves (linear_system U) (length U.rows)) us
   each_member [] h = tt
-  each_member (u ∷ us) h = let s = h.0 in (subst (Solves (system_of U) (length U.rows)) (sym s.3) (solution_member s.0 s.1 s.2), each_member us h.1)
+  each_member (u ∷ us) h = let s = h.0 in (subst (Solves (linear_system U) (length U.rows)) (sym s.3) (solution_member s.0 s.1 s.2), each_member us h.1)
 
-  minimal_is_full : (g : List ℤ) → IsMinimal (Solves (system_of U) (length U.rows)) g → (d : ℤ) × (y : List ℤ) × IsMinimalForUser U d y × (g ≡ full_vector U d y)
+  minimal_is_full : (g : List ℤ) → IsMinimal (Solves (linear_system U) (length U.rows)) g → (d : ℤ) × (y : List ℤ) × IsMinimalForUser U d y × (g ≡ full_vector U d y)
   minimal_is_full g m =
       let f = is_full U well g m.member in
-      let s : IsUserSolution U f.0 f.1 = record { home = f.2; solves = f.3 } in (
+      let s : IsUserSolution U f.0 f.1 = record { x0 = f.2; solves = f.3 } in (
         f.0,
         f.1,
         record {
@@ -68,5 +69,5 @@ pub nothing_is_left : (U : UserSystem) (c : ℤ) (x : List ℤ) (us : List (List
     AllByRecursion (λ u. (d : ℤ) × (y : List ℤ) × IsUserSolution U d y × (u ≡ full_vector U d y)) us →
     ((d : ℤ) (y : List ℤ) → IsMinimalForUser U d y → Contains us (full_vector U d y)) → IsWalk us (full_vector U c x) terms left → IsZero left
 nothing_is_left U c x us terms left well s each all h =
-    nothing_left (Solves (system_of U) (length U.rows)) (solves_closed (system_of U) (length U.rows)) us (full_vector U c x) terms left (each_member U well us each)
+    nothing_left (Solves (linear_system U) (length U.rows)) (solves_closed (linear_system U) (length U.rows)) us (full_vector U c x) terms left (each_member U well us each)
     (λ g m. let f = minimal_is_full U well g m in subst (Contains us) (sym f.3) (all f.0 f.1 f.2)) (solution_member U well c x s) h

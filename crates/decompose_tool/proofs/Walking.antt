@@ -2,7 +2,8 @@
 use Rattle.std.proofs.Common.{◌≡◌, ℕ, suc, ◌≤◌, List, [], ◌∷◌, length, replicate, refl, ap, sym, ◌∙◌, subst, arith, inl, inr}
 use Rattle.std.specs.Prelude.{ℤ, pos}
 use Rattle.std.specs.List.{AllByRecursion}
-use Rattle.int_vector.specs.Vectors.{add, subtract, total, ◌⊑◌}
+use Rattle.int_vector.specs.Operations.{add, subtract, total}
+use Rattle.int_vector.specs.Vectors.{◌⊑◌}
 use Rattle.int_vector.proofs.Vectors.{below_refl, below_trans, length-below, difference_below, add-subtract}
 use Rattle.lift_core.proofs.Totals.{add-assoc, length-zeros}
 use Rattle.decompose_tool.specs.Walks.{times, IsMost, Term, IsWalk, multiples, vectors, AreDifferent}

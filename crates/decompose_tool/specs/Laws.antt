@@ -1,9 +1,10 @@
 -- The laws of the walk, over the definitions alone.
 use Rattle.std.specs.Prelude.{◌≡◌, List, ℤ, length}
 use Rattle.std.specs.List.{AllByRecursion, Contains}
-use Rattle.int_vector.specs.Vectors.{◌⊑◌, IsZero, add, total}
-use Rattle.system_shape.specs.Shape.{UserSystem, IsWellFormed, full_vector}
-use Rattle.system_shape.specs.Solutions.{IsUserSolution, IsMinimalForUser}
+use Rattle.int_vector.specs.Vectors.{◌⊑◌, IsZero}
+use Rattle.int_vector.specs.Operations.{add, total}
+use Rattle.system_shape.specs.Problem.{UserSystem, full_vector, IsUserSolution, IsMinimalForUser}
+use Rattle.system_shape.specs.Laws.{IsWellFormed}
 use Rattle.decompose_tool.specs.Walks.{Term, IsWalk, multiples, vectors, AreDifferent}
 
 -- the multiples and what is left add up to where the walk began

@@ -1,7 +1,8 @@
 -- The walk over candidates: each is taken as often as it fits below what is left.
 use Rattle.std.specs.Prelude.{◌≡◌, ◌≤◌, ◌⊎◌, ℕ, List, [], ◌∷◌, ℤ, pos, ◌*ℤ◌, map}
 use Rattle.std.specs.List.{AllByRecursion}
-use Rattle.int_vector.specs.Vectors.{◌⊑◌, subtract}
+use Rattle.int_vector.specs.Vectors.{◌⊑◌}
+use Rattle.int_vector.specs.Operations.{subtract}
 
 -- c times a vector
 abbrev pub times : ℕ → List ℤ → List ℤ

@@ -3,7 +3,7 @@
 ghost use Rattle.std.specs.Prelude.{◌≡◌, ◌++◌, ◌<◌, ◌≤◌, ℕ, ℤ, List, true, false, IsTrue, IfOk, length, slice_index, get_or};
 ghost use Rattle.std.specs.Fmt.{signed_decimal};
 ghost use Rattle.std.specs.List.{AllByRecursion, All};
-ghost use Rattle.lift_core.specs.Systems.{InRange};
+ghost use Rattle.int_vector.specs.Range.{InRange};
 ghost use Rattle.mat_files.specs.Texts.{line_of};
 ghost use Rattle.restart_file.specs.Inside.Words.{ends_word};
 

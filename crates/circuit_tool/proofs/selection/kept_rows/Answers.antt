@@ -1,7 +1,7 @@
 use Rattle.std.proofs.Common.{◌≡◌, ◌<◌, ◌+◌, ◌++◌, ◌∷◌, [], ◌∙◌, ap, subst, sym, length, drop, arith, true, false, length-append}
 use Rattle.std.specs.List.{filter}
 use Rattle.std.proofs.lemmas.List.Elements.{recursion_from_All}
-use Rattle.lift_core.specs.Systems.{InRange}
+use Rattle.int_vector.specs.Range.{InRange}
 use Rattle.solution_files.specs.Steps.{rows_behind, AreRows}
 use Rattle.system_files.specs.Kernel.{rows_in}
 use Rattle.circuit_tool.specs.Inside.Supports.{is_kept}
