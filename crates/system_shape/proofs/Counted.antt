@@ -4,7 +4,8 @@ use Rattle.std.specs.List.{AllByRecursion, flat_map, range_with_len}
 use Rattle.std.proofs.lemmas.List.{length-append, length-replicate}
 use Rattle.std.proofs.lemmas.List.Concat.{flat_map-append}
 use Rattle.std.proofs.lemmas.List.FromFn.{length-map-range_with_len, map-range_with_len_more}
-use Rattle.mat_files.specs.Matrices.{IsMatrix, IsSmall}
+use Rattle.mat_files.specs.Grids.{IsMatrix}
+use Rattle.int_vector.specs.Range.{InRange}
 use Rattle.lift_core.specs.declared.Tool.TheVariants.{Graver}
 use Rattle.system_shape.specs.Shape.{shape_fault, user_system}
 use Rattle.system_shape.specs.Tables.{mark, row_sum, column_sum, table_cells, tables_input}
@@ -53,23 +54,23 @@ cells_length k =
     ∙ ap (λ n. 3 * (3 * k) + n) (columns ∙ ap (λ n. n * (3 * k)) (counted_length 0 k))
     ∙ (omega arith)
 
-all_append : (xs ys : List ℤ) → AllByRecursion IsSmall xs → AllByRecursion IsSmall ys → AllByRecursion IsSmall (xs ++ ys)
+all_append : (xs ys : List ℤ) → AllByRecursion InRange xs → AllByRecursion InRange ys → AllByRecursion InRange (xs ++ ys)
 all_append [] ys a b = b
 all_append (x ∷ xs) ys a b = (a.0, all_append xs ys a.1 b)
 
-all_flat : (f : ℕ → List ℤ) → ((i : ℕ) → AllByRecursion IsSmall (f i)) → (xs : List ℕ) → AllByRecursion IsSmall (flat_map f xs)
+all_flat : (f : ℕ → List ℤ) → ((i : ℕ) → AllByRecursion InRange (f i)) → (xs : List ℕ) → AllByRecursion InRange (flat_map f xs)
 all_flat f each [] = tt
 all_flat f each (x ∷ xs) = all_append (f x) (flat_map f xs) (each x) (all_flat f each xs)
 
-mark_small : (b : Bool) → IsSmall (mark b)
+mark_small : (b : Bool) → InRange (mark b)
 mark_small true = omega arith
 mark_small false = omega arith
 
-all_marks : (f : ℕ → Bool) (xs : List ℕ) → AllByRecursion IsSmall (map (λ c. mark (f c)) xs)
+all_marks : (f : ℕ → Bool) (xs : List ℕ) → AllByRecursion InRange (map (λ c. mark (f c)) xs)
 all_marks f [] = tt
 all_marks f (x ∷ xs) = (mark_small (f x), all_marks f xs)
 
-pub cells_small : (k : ℕ) → AllByRecursion IsSmall (table_cells k)
+pub cells_small : (k : ℕ) → AllByRecursion InRange (table_cells k)
 cells_small k = all_append (flat_map (row_sum k) (range_with_len 0 3)) (flat_map (column_sum k) (range_with_len 0 k))
     (all_flat (row_sum k) (λ i. all_marks (λ c. c / k == i) (range_with_len 0 (3 * k))) (range_with_len 0 3))
     (all_flat (column_sum k) (λ j. all_marks (λ c. c % k == j) (range_with_len 0 (3 * k))) (range_with_len 0 k))

@@ -3,7 +3,5 @@ pub mod Slacks
 pub mod Shape
 pub mod Answers
 pub mod Laws
-pub mod Accepted
-pub mod Cells
 pub mod Tables
 pub mod Inside

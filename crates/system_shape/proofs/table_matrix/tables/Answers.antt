@@ -1,6 +1,6 @@
 use Rattle.std.proofs.Common.{◌≡◌, ◌+◌, ◌*◌, ◌++◌, ◌∙◌, ap, sym, subst, List, ℤ}
 use Rattle.std.specs.List.{flat_map, range_with_len}
-use Rattle.mat_files.specs.Matrices.{IsMatrix}
+use Rattle.mat_files.specs.Grids.{IsMatrix}
 use Rattle.system_shape.specs.Tables.{row_sum, column_sum, table_cells}
 use Rattle.system_shape.proofs.Counted.{cells_are_matrix}
 use Rattle.system_shape.proofs.table_matrix.tables.Goals as goal
