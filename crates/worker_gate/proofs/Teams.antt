@@ -25,14 +25,14 @@ module _ (b : Board) where
   ended_missed (x ∷ xs) [] l e = absurd (omega arith)
   ended_missed (x ∷ xs) (y ∷ ys) l e = let r = ended_missed xs ys (omega arith) (rest x xs y ys e) in let w = (first x xs y ys e).missed in omega arith
 
-  pub ended_empty : (xs ys : List Worker) → length ys ≡ length xs → AllEnded b xs ys → All IsFine ys → All IsEmpty xs → total_of missed_of ys ≡ total_of missed_of xs → All IsEmpty ys
-  ended_empty [] [] l e f g m = All-nil IsEmpty
-  ended_empty [] (y ∷ ys) l e f g m = absurd (omega arith)
-  ended_empty (x ∷ xs) [] l e f g m = absurd (omega arith)
-  ended_empty (x ∷ xs) (y ∷ ys) l e f g m =
+  pub ended_empty : (xs ys : List Worker) → length ys ≡ length xs → AllEnded b xs ys → All IsFine ys → total_of missed_of ys ≡ total_of missed_of xs → All IsEmpty ys
+  ended_empty [] [] l e f m = All-nil IsEmpty
+  ended_empty [] (y ∷ ys) l e f m = absurd (omega arith)
+  ended_empty (x ∷ xs) [] l e f m = absurd (omega arith)
+  ended_empty (x ∷ xs) (y ∷ ys) l e f m =
       let h = first x xs y ys e in
       let t = rest x xs y ys e in
       let r = ended_missed xs ys (omega arith) t in
       let w = h.missed in
-      All-cons IsEmpty y ys ((h.empty (All-head IsFine y ys f)).empty (All-head IsEmpty x xs g) (omega arith))
-      (ended_empty xs ys (omega arith) t (All-tail IsFine y ys f) (All-tail IsEmpty x xs g) (omega arith))
+      All-cons IsEmpty y ys (h.empty (All-head IsFine y ys f) (omega arith))
+      (ended_empty xs ys (omega arith) t (All-tail IsFine y ys f) (omega arith))

@@ -8,6 +8,7 @@ use Rattle.lift_core.specs.Times.{times, once_below}
 use Rattle.norm_board.specs.Rule.{gained, joined}
 use Rattle.norm_board.specs.Puts.{Open, HasOpen, PutDone}
 use Rattle.worker_gate.specs.Work.{HasGained}
+use Rattle.worker_gate.specs.Inside.Steps.{LeavesPass}
 use Rattle.lift_core.proofs.Times.{times-append, times_same}
 use Rattle.lift_core.proofs.Times.{once_le}
 
@@ -28,6 +29,11 @@ pub put_weight : (e : Put) (v w : View) (s t : BookValue) → PutDone e v w s t 
 put_weight Kept v w s t d = d.0.weight
 put_weight Held v w s t d = ap (λ (u : View). u.weight) d.0
 put_weight Memory v w s t d = ap (λ (u : View). u.weight) d.0
+
+put_done : (e : Put) (v w : View) (s t : BookValue) → PutDone e v w s t → w.done ≡ v.done
+put_done Kept v w s t d = d.0.done
+put_done Held v w s t d = ap (λ (u : View). u.done) d.0
+put_done Memory v w s t d = ap (λ (u : View). u.done) d.0
 
 pub put_drawn : (e : Put) (v w : View) (s t : BookValue) → PutDone e v w s t → w.drawn ≡ v.drawn
 put_drawn Kept v w s t d = d.0.drawn
@@ -57,10 +63,19 @@ draw_gains u v w n h e = record {
 }
 
 -- and after a put
-pub put_gains : (u v w : View) (e : Put) (s t : BookValue) → HasGained u v → PutDone e v w s t → HasGained u w
-put_gains u v w e s t h d = record {
-  drawn = λ x. let a = h.drawn x in let b = ap (times x) (put_drawn e v w s t d) in omega arith;
-  kept = λ x. let a = h.kept x in let b = put_kept e v w s t d x in omega arith;
+pub leaves_gains : (u v w : View) → HasGained u v → LeavesPass v w → HasGained u w
+leaves_gains u v w h l = record {
+  drawn = λ x. let a = h.drawn x in let b = ap (times x) l.drawn in omega arith;
+  kept = λ x. let a = h.kept x in let b = l.kept x in omega arith;
+}
+
+pub leaves_of : (e : Put) (v w : View) (s t : BookValue) → PutDone e v w s t → LeavesPass v w
+leaves_of e v w s t d = record {
+  weight = put_weight e v w s t d;
+  done = put_done e v w s t d;
+  drawn = put_drawn e v w s t d;
+  kept = put_kept e v w s t d;
+  missed = put_missed e v w s t d;
 }
 
 pub has_last : (xs : List ℕ) (n : ℕ) → 0 < times n (xs ++ n ∷ [])

@@ -16,11 +16,6 @@ pub record IsWorker (board : Board) (pass : Pass) (share : BookValue) : Type 0 w
   pub is_of : IsBookOf board.plan share
   pub blocks : HasOpen (view pass) share.blocks
 
--- where no swap was missed, and nothing was left before, nothing is left
-pub record HasWorked (v w : View) (s t : BookValue) : Type 0 where
-  pub rises : v.missed ≤ w.missed
-  pub empty : s.blocks ≡ [] → w.missed ≡ v.missed → t.blocks ≡ []
-
 -- it does not hold the turn, and has drawn nothing
 pub record IsFresh (v : View) : Type 0 where
   pub free : v.holding ≡ false

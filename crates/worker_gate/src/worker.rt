@@ -1,15 +1,57 @@
 //! One worker's part.
 
-ghost use Rattle.std.specs.Prelude.{◌≡◌, ◌≤◌, true, OnOk};
+ghost use Rattle.std.specs.Prelude.{◌≡◌, ◌≤◌, true, [], OnOk};
 ghost use Rattle.norm_board.specs.Seen.{view};
-ghost use Rattle.worker_gate.specs.Work.{IsWorker, HasGained, HasWorked};
+ghost use Rattle.worker_gate.specs.Inside.Steps.{LeavesPass};
+ghost use Rattle.worker_gate.specs.Work.{IsWorker, HasGained};
 
 use crate::gate::{Gate, Point};
 use norm_board::{Board, Pass, Put, Share};
 use std::alloc::AllocError;
 
-/// Draws, works out and puts, block after block, until none is left. Where another pass holds the turn, the worker keeps its
-/// share and goes on. The gate is told each draw, and each put before and after it.
+// Puts the share, and tells the gate before and after it.
+fn put_share<'s, G: Gate>(
+    board: &Board<'s>,
+    pass: &mut Pass,
+    share: &mut Share<'s>,
+    worker: u32,
+    gate: &G,
+) -> Result<(), AllocError>
+    requires { IsWorker board.now pass.old share.old }
+    ensures still { IsWorker board.now pass.new share.new }
+    ensures leaves { LeavesPass (view pass.old) (view pass.new) }
+    ensures empty { OnOk result ((view pass.new).missed ≡ (view pass.old).missed → share.new.blocks ≡ []) }
+{
+    gate.at(worker, Point::Putting);
+    let end = board.put(pass, share);
+    gate.at(worker, Point::PutDone);
+    if let Put::Memory = end {
+        return Err(AllocError);
+    }
+    Ok(())
+}
+
+// Puts the share where it has a sum. Blocks without sums wait for the next put, so that passing over them costs no put.
+fn put_sums<'s, G: Gate>(
+    board: &Board<'s>,
+    pass: &mut Pass,
+    share: &mut Share<'s>,
+    worker: u32,
+    gate: &G,
+) -> Result<(), AllocError>
+    requires { IsWorker board.now pass.old share.old }
+    ensures still { IsWorker board.now pass.new share.new }
+    ensures leaves { LeavesPass (view pass.old) (view pass.new) }
+{
+    if share.rows().len() == 0 {
+        return Ok(());
+    }
+    put_share(board, pass, share, worker, gate)
+}
+
+/// Draws and works out block after block until none is left, and puts its share after each block with a sum and at the end.
+/// Where another pass holds the turn, the worker keeps its share and goes on. The gate is told each draw, and each put before
+/// and after it.
 ///
 /// # Errors
 /// Memory ran out. The pass still has its weight, and the share what the pass has drawn and not kept.
@@ -26,7 +68,7 @@ pub fn work<'s, G: Gate>(
     ensures gained { HasGained (view pass.old) (view pass.new) }
     ensures done { OnOk result ((view pass.new).done ≡ true) }
     ensures missed { (view pass.old).missed ≤ (view pass.new).missed }
-    ensures empty { OnOk result (HasWorked (view pass.old) (view pass.new) share.old share.new) }
+    ensures empty { OnOk result ((view pass.new).missed ≡ (view pass.old).missed → share.new.blocks ≡ []) }
 {
     // so the number of blocks is known to be in range
     let blocks = board.blocks();
@@ -44,12 +86,7 @@ pub fn work<'s, G: Gate>(
         };
         least = block.number + 1;
         share.evaluate(block);
-        gate.at(worker, Point::Putting);
-        let end = board.put(pass, share);
-        gate.at(worker, Point::PutDone);
-        if let Put::Memory = end {
-            return Err(AllocError);
-        }
+        put_sums(board, pass, share, worker, gate)?;
     }
-    Ok(())
+    put_share(board, pass, share, worker, gate)
 }

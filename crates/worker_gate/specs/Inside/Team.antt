@@ -3,7 +3,7 @@ use Rattle.std.specs.Prelude.{◌≡◌, ℕ, ◌≤◌, ◌<◌, List, [], true
 use Rattle.norm_board.specs.declared.board.Board.{Board}
 use Rattle.norm_board.specs.Seen.{view}
 use Rattle.worker_gate.specs.declared.record.Worker.{Worker}
-use Rattle.worker_gate.specs.Work.{IsWorker, HasWorked}
+use Rattle.worker_gate.specs.Work.{IsWorker}
 
 -- it can begin, or go on
 abbrev pub IsReady : Board → Worker → Type 0
@@ -25,7 +25,7 @@ pub record HasEnded (b : Board) (w x : Worker) : Type 0 where
   pub weight : weight_of x ≡ weight_of w
   pub done : x.failed ≡ false → (view x.pass).done ≡ true
   pub missed : missed_of w ≤ missed_of x
-  pub empty : x.failed ≡ false → HasWorked (view w.pass) (view x.pass) w.share x.share
+  pub empty : x.failed ≡ false → missed_of x ≡ missed_of w → IsEmpty x
 
 -- each worker of ys is what its thread left of the one of xs
 abbrev pub AllEnded : Board → List Worker → List Worker → Type 0

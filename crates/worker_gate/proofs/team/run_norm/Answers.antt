@@ -13,4 +13,4 @@ returns-clause-empty g c same =
     let r = c.run_team.ensures in
     let t = c.in_ok-team.ensures in
     let p = c.in_ok-pass.ensures in
-    p.empty (ended_empty c.args.board c.in_ok-team.team.items c.run_team.new.team.items r.len r.ended p.fine t.empty (sym p.missed ∙ (same ∙ sym t.missed)))
+    p.empty (ended_empty c.args.board c.in_ok-team.team.items c.run_team.new.team.items r.len r.ended p.fine (sym p.missed ∙ (same ∙ sym t.missed)))
