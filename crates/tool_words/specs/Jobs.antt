@@ -1,7 +1,7 @@
 -- The job that the words of a command are.
 use Rattle.std.specs.Prelude.{◌≡◌, ◌^◌, ◌≤◌, ℕ, not, Bool, false, if◌then◌else◌, List, Option, None, Some, IfSome, Result, Ok, Err, unwrap_or, codes}
 use Rattle.lift_core.specs.declared.Tool.{Tool}
-use Rattle.tool_words.specs.Names.{is_name}
+use Rattle.outside.specs.Names.{is_name}
 use Rattle.tool_words.specs.Numbers.{number_in}
 use Rattle.tool_words.specs.Walks.{Text, Given, is_true, text_of, given_of, ◌>>=◌}
 use Rattle.tool_words.specs.declared.jobs.Job.{Job}

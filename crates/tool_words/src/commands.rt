@@ -19,7 +19,8 @@ fn with_flag<'a>(
     name: &'a str,
     letter: char,
 ) -> Result<Command<'a>, AllocError>
-    ensures { IfOk result (λ r. app_of r ≡ with_rule (app_of command.entry) (rule_for (flag name.now letter))) }
+    ensures { IfOk result
+        (λ r. app_of r ≡ with_rule (app_of command.entry) (rule_for (flag name.now letter))) }
 {
     let flag = Arg::new(alloc, name)
         .short(letter)
@@ -34,7 +35,8 @@ fn with_value<'a>(
     command: Command<'a>,
     name: &'a str,
 ) -> Result<Command<'a>, AllocError>
-    ensures { IfOk result (λ r. app_of r ≡ with_rule (app_of command.entry) (rule_for (valued name.now))) }
+    ensures { IfOk result
+        (λ r. app_of r ≡ with_rule (app_of command.entry) (rule_for (valued name.now))) }
 {
     let option = Arg::new(alloc, name).long(name);
     command.arg(option)
@@ -78,7 +80,8 @@ pub(crate) fn matches_in<'a>(
     words: &'a [&'a str],
 ) -> Result<ArgMatches<'a>, Error>
     ensures refused { FailsBy (fault_of (command_for tool) (map (λ w. w.now) words.entry.now)) result }
-    ensures read { IfOk result (λ m. rows_of (found_of m) ≡ matches_of (command_for tool) (map (λ w. w.now) words.entry.now)) }
+    ensures read { IfOk result
+        (λ m. rows_of (found_of m) ≡ matches_of (command_for tool) (map (λ w. w.now) words.entry.now)) }
 {
     let command = command(alloc, tool)?;
     command.try_get_matches_from(words)

@@ -1,10 +1,9 @@
 //! From words to a job.
-ghost use Rattle.std.specs.Prelude.{◌≡◌, ◌≤◌, ◌==◌, not, IfOk, IfSome, map, IsUtf8, slice_index, option_map};
-ghost use Rattle.std.specs.List.{AllByRecursion, list_all};
+ghost use Rattle.std.specs.Prelude.{◌≡◌, ◌==◌, IfOk, IfSome, map, IsUtf8, slice_index, option_map};
+ghost use Rattle.std.specs.List.{AllByRecursion};
 ghost use Rattle.clap.specs.Walk.{rows_of};
 ghost use Rattle.clap.specs.Matches.{found_of};
 ghost use Rattle.clap.specs.Values.{kind_of};
-ghost use Rattle.tool_words.specs.Names.{is_name};
 ghost use Rattle.tool_words.specs.Numbers.{number_in};
 ghost use Rattle.tool_words.specs.Jobs.{IsWithinLimits, Reads, is_apart};
 ghost use Rattle.tool_words.specs.Walks.{is_true};
@@ -15,7 +14,7 @@ use crate::{Job, Name, WordEnd};
 use clap::error::ErrorKind;
 use clap::{ArgMatches, Error};
 use lift_core::Tool;
-use outside::Words;
+use outside::{Words, is_project_name};
 use std::alloc::{AllocError, Global};
 
 // The texts of the options and of the project, and which flags are given.
@@ -54,29 +53,10 @@ fn number(text: &str, least: u64, most: u64) -> Option<u64>
     }
 }
 
-fn has_no_zero(bytes: &[u8]) -> bool
-    ensures { result ≡ list_all (λ b. not (b == 0)) bytes.now }
-{
-    bytes.iter().all(|b| *b != 0)
-}
-
-fn is_project(name: &[u8]) -> bool
-    ensures { result ≡ is_name name.now }
-{
-    match name {
-        [] => false,
-        [first, ..] => {
-            if name.len() > 200 || *first == b'-' {
-                return false;
-            }
-            has_no_zero(name)
-        }
-    }
-}
-
 // The words as texts.
 fn texts<'w>(alloc: Global, words: &'w Words) -> Result<Vec<&'w str>, AllocError>
-    ensures { IfOk result (λ t. (map (λ w. w.now) t.items ≡ words.now) × AllByRecursion IsUtf8 words.now) }
+    ensures texts { IfOk result (λ t. map (λ w. w.now) t.items ≡ words.now) }
+    ensures utf8 { IfOk result (λ _. AllByRecursion IsUtf8 words.now) }
 {
     let mut texts = Vec::new(alloc);
     for i in 0..words.len() {
@@ -121,7 +101,7 @@ fn stands_apart(
     match tables {
         None => match project {
             None => false,
-            Some(project) => is_project(project.as_bytes()),
+            Some(project) => is_project_name(project.as_bytes()),
         },
         Some(_) => match project {
             Some(_) => false,

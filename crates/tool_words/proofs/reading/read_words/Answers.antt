@@ -12,15 +12,15 @@ use Rattle.tool_words.proofs.reading.read_words.Goals as goal
 
 pub returns-in-Ok-clause-reads : goal.returns-in-Ok-clause-reads
 returns-in-Ok-clause-reads c =
-    let same : map (λ (w : Bor (List ℕ)). w.now) c.as_slice.result.now ≡ c.args.words.now = ap (map (λ (w : Bor (List ℕ)). w.now)) c.as_slice.ensures.value ∙ c.in_ok-texts.ensures.0 in
-    reads_found c.args.tool c.args.words.now (rows_of (found_of c.in-Ok.found)) c.job.result c.in_ok-texts.ensures.1
+    let same : map (λ (w : Bor (List ℕ)). w.now) c.as_slice.result.now ≡ c.args.words.now = ap (map (λ (w : Bor (List ℕ)). w.now)) c.as_slice.ensures.value ∙ c.in_ok-texts.ensures.texts in
+    reads_found c.args.tool c.args.words.now (rows_of (found_of c.in-Ok.found)) c.job.result c.in_ok-texts.ensures.utf8
     (sym (ap (fault_of (command_for c.args.tool)) same) ∙ c.in-Ok.ensures.refused)
     (c.in-Ok.ensures.read ∙ ap (matches_of (command_for c.args.tool)) same)
     (subst (λ t. MakesJob t c.job.result) c.found_texts.ensures c.job.ensures.reads)
 
 pub returns-clause-reads : goal.returns-clause-reads
 returns-clause-reads c =
-    let same : map (λ (w : Bor (List ℕ)). w.now) c.as_slice.result.now ≡ c.args.words.now = ap (map (λ (w : Bor (List ℕ)). w.now)) c.as_slice.ensures.value ∙ c.in_ok-texts.ensures.0 in
-    reads_refused c.args.tool c.args.words.now (kind_of c.in-Err.error) c.end_of.result c.in_ok-texts.ensures.1
+    let same : map (λ (w : Bor (List ℕ)). w.now) c.as_slice.result.now ≡ c.args.words.now = ap (map (λ (w : Bor (List ℕ)). w.now)) c.as_slice.ensures.value ∙ c.in_ok-texts.ensures.texts in
+    reads_refused c.args.tool c.args.words.now (kind_of c.in-Err.error) c.end_of.result c.in_ok-texts.ensures.utf8
     (subst (λ (w : List (List ℕ)). HasKind (fault_of (command_for c.args.tool) w) c.in-Err.error) same c.in-Err.ensures.refused)
     c.end_of.ensures
