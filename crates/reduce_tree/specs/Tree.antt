@@ -40,4 +40,5 @@ AreNotBelow places rows z = (i : ℕ) → Contains places i → slice_index_or r
 
 -- no row at these places before an end is below z
 abbrev pub AreNotBelowBefore : ℕ → List ℕ → List (List ℤ) → List ℤ → Type 0
-AreNotBelowBefore end places rows z = (i : ℕ) → Contains places i → i < end → slice_index_or rows i [] ⊑ z → ⊥
+AreNotBelowBefore end places rows z =
+    (i : ℕ) → Contains places i → i < end → slice_index_or rows i [] ⊑ z → ⊥

@@ -86,7 +86,9 @@ impl Bucket {
     ) -> Option<RowId>
         requires marked { AllByRecursion (IsMarked pool.now.rows z.now bounds.now) self.now }
         requires width { pool.now.width ≡ length z.now }
-        ensures { MatchOption result (AreNoneBelow self.now pool.now.rows z.now bounds.now (length self.now)) (λ id. IsBelowAt self.now pool.now.rows z.now bounds.now id.0) }
+        ensures { MatchOption result
+            (AreNoneBelow self.now pool.now.rows z.now bounds.now (length self.now))
+            (λ id. IsBelowAt self.now pool.now.rows z.now bounds.now id.0) }
     {
         let count = self.rows.len();
         let mut k = 0;
@@ -147,7 +149,8 @@ fn add_word(words: &mut Vec<Word>, size: usize, rows: &[Filed])
 
 /// A word that is true of each of these rows.
 fn common(rows: &[Filed]) -> Word
-    ensures { (k : ℕ) → k < length rows.now → Covers result (slice_index_or rows.now k nothing_filed) }
+    ensures { (k : ℕ) → k < length rows.now
+        → Covers result (slice_index_or rows.now k nothing_filed) }
 {
     let mut word = Word {
         bits: u128::MAX,

@@ -63,7 +63,9 @@ impl Index {
     ) -> Option<RowId>
         requires marked { AreAllMarked self.now pool.now.rows z.now bounds.now }
         requires width { pool.now.width ≡ length z.now }
-        ensures { MatchOption result (HasNoneUnderFirst self.now pool.now.rows z.now bounds.now branch) (λ id. IsBelowIn self.now pool.now.rows z.now bounds.now id.0) }
+        ensures { MatchOption result
+            (HasNoneUnderFirst self.now pool.now.rows z.now bounds.now branch)
+            (λ id. IsBelowIn self.now pool.now.rows z.now bounds.now id.0) }
     {
         let mut rest = self.first.classes(branch) & bounds.classes;
         while rest != 0 {
@@ -90,7 +92,9 @@ impl Index {
     ) -> Option<RowId>
         requires marked { AreAllMarked self.now pool.now.rows z.now bounds.now }
         requires width { pool.now.width ≡ length z.now }
-        ensures { MatchOption result (HasNoneUnderSecond self.now pool.now.rows z.now bounds.now branch) (λ id. IsBelowIn self.now pool.now.rows z.now bounds.now id.0) }
+        ensures { MatchOption result
+            (HasNoneUnderSecond self.now pool.now.rows z.now bounds.now branch)
+            (λ id. IsBelowIn self.now pool.now.rows z.now bounds.now id.0) }
     {
         let mut rest = self.second.classes(branch) & bounds.classes;
         while rest != 0 {
@@ -117,7 +121,9 @@ impl Index {
     ) -> Option<RowId>
         requires marked { AreAllMarked self.now pool.now.rows z.now bounds.now }
         requires width { pool.now.width ≡ length z.now }
-        ensures { MatchOption result (HasNoneUnderThird self.now pool.now.rows z.now bounds.now branch) (λ id. IsBelowIn self.now pool.now.rows z.now bounds.now id.0) }
+        ensures { MatchOption result
+            (HasNoneUnderThird self.now pool.now.rows z.now bounds.now branch)
+            (λ id. IsBelowIn self.now pool.now.rows z.now bounds.now id.0) }
     {
         let mut rest = self.third.classes(branch) & bounds.classes;
         while rest != 0 {
@@ -140,7 +146,8 @@ impl Index {
 
 /// Makes buckets until this one is there.
 fn grow(alloc: Global, buckets: &mut Vec<Bucket>, bucket: u32) -> Result<(), AllocError>
-    ensures kept { (b : ℕ) → slice_index_or buckets.new.items b [] ≡ slice_index_or buckets.old.items b [] }
+    ensures kept { (b : ℕ)
+        → slice_index_or buckets.new.items b [] ≡ slice_index_or buckets.old.items b [] }
     ensures count { length buckets.old.items ≤ length buckets.new.items }
     ensures there { OnOk result (bucket < length buckets.new.items) }
 {

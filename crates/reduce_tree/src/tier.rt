@@ -36,7 +36,8 @@ impl Branch {
     /// The kid of a class.
     fn kid(&self, class: u8) -> Option<u32>
         requires { class < 128 }
-        ensures { MatchOption result (IsKid self.now class → ⊥) (λ kid. IsKid self.now class × (kid_of self.now class ≡ kid)) }
+        ensures { MatchOption result (IsKid self.now class → ⊥)
+            (λ kid. IsKid self.now class × (kid_of self.now class ≡ kid)) }
     {
         if (self.classes >> class) & 1 == 0 || class as usize >= self.kids.len() {
             return None;
@@ -60,7 +61,8 @@ impl Branch {
 
 /// Appends zeros until there are `len` numbers at least. After an error the numbers are as before.
 fn fill(numbers: &mut Vec<u32>, len: usize) -> Result<(), AllocError>
-    ensures kept { (k : ℕ) → k < length numbers.old.items → slice_index_or numbers.new.items k 0 ≡ slice_index_or numbers.old.items k 0 }
+    ensures kept { (k : ℕ) → k < length numbers.old.items
+        → slice_index_or numbers.new.items k 0 ≡ slice_index_or numbers.old.items k 0 }
     ensures count { length numbers.old.items ≤ length numbers.new.items }
     ensures enough { OnOk result (len ≤ length numbers.new.items) }
 {
@@ -142,7 +144,8 @@ impl Tier {
     pub fn step(&mut self, branch: u32, class: u8) -> Result<u32, AllocError>
         requires { class < 128 }
         ensures kept { KeepsSteps self.old self.new }
-        ensures step { IfOk result (λ kid. IsStep self.new branch class × (kid_at self.new branch class ≡ kid)) }
+        ensures step { IfOk result
+            (λ kid. IsStep self.new branch class × (kid_at self.new branch class ≡ kid)) }
     {
         self.grow(branch)?;
         if let Some(kid) = self.branches[branch as usize].kid(class) {

@@ -125,7 +125,9 @@ impl Tree {
     pub fn find_below(&self, pool: &Pool, z: &[i64], visits: &mut Visits) -> Option<RowId>
         requires fits { Fits self.now pool.now }
         requires width { length z.now ≡ pool.now.width }
-        ensures { MatchOption result (AreNotBelow (places_of self.now) pool.now.rows z.now) (λ id. Contains (places_of self.now) id.0 × (slice_index_or pool.now.rows id.0 [] ⊑ z.now)) }
+        ensures { MatchOption result (AreNotBelow (places_of self.now) pool.now.rows z.now)
+            (λ id. Contains (places_of self.now) id.0
+            × (slice_index_or pool.now.rows id.0 [] ⊑ z.now)) }
     {
         self.find_below_before(pool, z, pool.len(), visits)
     }
@@ -141,7 +143,10 @@ impl Tree {
     ) -> Option<RowId>
         requires fits { Fits self.now pool.now }
         requires width { length z.now ≡ pool.now.width }
-        ensures { MatchOption result (AreNotBelowBefore end (places_of self.now) pool.now.rows z.now) (λ id. Contains (places_of self.now) id.0 × (id.0 < end) × (slice_index_or pool.now.rows id.0 [] ⊑ z.now)) }
+        ensures { MatchOption result
+            (AreNotBelowBefore end (places_of self.now) pool.now.rows z.now)
+            (λ id. Contains (places_of self.now) id.0 × (id.0 < end)
+            × (slice_index_or pool.now.rows id.0 [] ⊑ z.now)) }
     {
         let bits = signature(z, self.levels as usize);
         let bounds = Bounds {

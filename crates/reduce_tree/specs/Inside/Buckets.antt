@@ -30,12 +30,14 @@ pub record IsBucket (rows : List Filed) (eights blocks : List Word) : Type 0 whe
 
 -- there is a word for the group of this number, and the bounds do not admit it
 abbrev pub IsRuledOut : List Word → ℕ → Bounds → Type 0
-IsRuledOut words group bounds = (group < length words) × (Admits bounds (slice_index_or words group no_word) → ⊥)
+IsRuledOut words group bounds =
+    (group < length words) × (Admits bounds (slice_index_or words group no_word) → ⊥)
 
 -- the place is that of a row, and where that row is below z and stands before the end, the bounds admit what is filed
 pub record IsMarked (rows : List (List ℤ)) (z : List ℤ) (bounds : Bounds) (f : Filed) : Type 0 where
   pub inside : f.place < length rows
-  pub admitted : slice_index_or rows f.place [] ⊑ z → f.place < bounds.end → Admits bounds (word_of f)
+  pub admitted : slice_index_or rows f.place [] ⊑ z → f.place < bounds.end
+      → Admits bounds (word_of f)
 
 -- the row is not below z, or does not stand before the end
 abbrev pub IsNotBelow : List (List ℤ) → List ℤ → Bounds → Filed → Type 0
@@ -44,10 +46,12 @@ IsNotBelow rows z bounds f = f.place < bounds.end → slice_index_or rows f.plac
 -- of the first filed rows none is below z
 abbrev pub AreNoneBelow : List Filed → List (List ℤ) → List ℤ → Bounds → ℕ → Type 0
 AreNoneBelow bucket rows z bounds to =
-    (k : ℕ) → k < to → k < length bucket → IsNotBelow rows z bounds (slice_index_or bucket k nothing_filed)
+    (k : ℕ) → k < to → k < length bucket
+    → IsNotBelow rows z bounds (slice_index_or bucket k nothing_filed)
 
 -- the place is that of a filed row that is below z and stands before the end
 abbrev pub IsBelowAt : List Filed → List (List ℤ) → List ℤ → Bounds → ℕ → Type 0
 IsBelowAt bucket rows z bounds id =
-    (k : ℕ) × (k < length bucket) × ((slice_index_or bucket k nothing_filed).place ≡ id) × (id < bounds.end)
+    (k : ℕ) × (k < length bucket) × ((slice_index_or bucket k nothing_filed).place ≡ id)
+    × (id < bounds.end)
     × (slice_index_or rows id [] ⊑ z)
