@@ -14,12 +14,6 @@ fn main(rt: HostRuntime) -> ExitCode {
     let mut folder = DirFolder::new(&rt);
     let mut out = StdSink::out(&rt);
     let mut err = StdSink::err(&rt);
-    let status = run_circuits(
-        rt.alloc(),
-        session.words(),
-        &mut folder,
-        &mut out,
-        &mut err,
-    );
+    let status = run_circuits(rt.alloc(), session.words(), &mut folder, &mut out, &mut err);
     ExitCode::from(status.code)
 }
