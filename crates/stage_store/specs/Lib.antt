@@ -1,6 +1,5 @@
-pub use Rattle.lift_core.specs.Inside.Units
+pub use Rattle.lift_core.specs.Units
 pub use Rattle.lift_core.specs.Systems
-pub use Rattle.lift_core.specs.ToolSystems
 pub use Rattle.lift_core.specs.Stages
 pub use Rattle.lift_core.specs.Ends
 pub use Rattle.row_pool.specs.Rows
@@ -20,3 +19,6 @@ pub mod Published
 pub mod Found
 pub mod Numbered
 pub mod Sorting
+pub mod Sieve
+pub mod Opened
+pub mod Fields

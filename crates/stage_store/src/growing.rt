@@ -3,8 +3,7 @@
 ghost use Rattle.std.specs.Prelude.{◌≡◌, ◌↔◌, IsTrue, ◌+◌, ◌-◌, ◌<◌, ◌≤◌, ◌^◌, ◌++◌, ℕ, List, [], length, take, drop, slice_index_or, IfOk, OnOk, OnErr, vec_len, vec_capacity};
 ghost use Rattle.std.specs.List.{AllByRecursion};
 ghost use Rattle.std.specs.List.Sorted.{IsStrictlySortedBy};
-ghost use Rattle.int_vector.specs.Vectors.{lex_cmp};
-ghost use Rattle.lift_core.specs.Stages.{stage_norm};
+ghost use Rattle.lift_core.specs.Stages.{lex_cmp, stage_norm};
 ghost use Rattle.stage_store.specs.Indexed.{HoldsRows};
 ghost use Rattle.stage_store.specs.Merge.{merged};
 ghost use Rattle.stage_store.specs.Classes.{places, sign_test, with_class};
@@ -170,7 +169,7 @@ pub fn list_rows(listed: &mut Pool, tree: &mut Tree, rows: &Pool) -> Result<(), 
 
 /// Whether the last entry is above 0, or below it.
 #[tactic(auto, using(crate::proofs::Signs::sign_laws))]
-fn has_sign(row: &[i64], width: usize, positive: bool) -> bool
+pub fn has_sign(row: &[i64], width: usize, positive: bool) -> bool
     requires { length row.now ≡ width + 1 }
     ensures { result ≡ sign_test positive row.now }
 {

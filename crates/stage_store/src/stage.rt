@@ -3,15 +3,11 @@
 ghost use Rattle.std.specs.Prelude.{◌≡◌, ◌↔◌, ◌+◌, ◌-◌, ◌*◌, ◌<◌, ◌≤◌, ◌^◌, ℕ, ℤ, List, [], length, slice_index_or, All, MatchOption, IsTrue, ◌+ℤ◌, nat_abs, IfOk, OnOk};
 ghost use Rattle.std.specs.List.{AllZip, AllByRecursion};
 ghost use Rattle.std.specs.List.Sorted.{IsStrictlySortedBy};
-ghost use Rattle.int_vector.specs.Vectors.{◌⊑◌, norm};
-ghost use Rattle.int_vector.specs.Operations.{add};
+ghost use Rattle.int_vector.specs.Vectors.{◌⊑◌, add, norm};
 ghost use Rattle.lift_core.specs.Lists.{IsListOf};
-ghost use Rattle.lift_core.specs.Inside.PairSums.{IsIrreducible, HasSum};
-ghost use Rattle.lift_core.specs.Stages.{IsPair, IsNextNorm, HasNoNextNorm, stage_norm, last};
-ghost use Rattle.lift_core.specs.ToolSystems.{width};
-ghost use Rattle.lift_core.specs.Systems.{Solves};
-ghost use Rattle.lift_core.specs.Inside.Walks.{used_up_to};
-ghost use Rattle.lift_core.specs.Ends.{solution_cmp};
+ghost use Rattle.lift_core.specs.Stages.{IsIrreducible, HasSum, IsPair, IsNextNorm, HasNoNextNorm, stage_norm, last};
+ghost use Rattle.lift_core.specs.Systems.{width, Solves};
+ghost use Rattle.lift_core.specs.Ends.{used_up_to, solution_cmp};
 ghost use Rattle.row_pool.specs.Rows.{InRange};
 ghost use Rattle.stage_store.specs.Stage.{StageValue, IsStage, IsDefined, used_of};
 ghost use Rattle.stage_store.specs.Classes.{pairs_of, IsPairAt};
@@ -22,10 +18,12 @@ ghost use Rattle.stage_store.specs.Lifted.{StartsOr, IsFirst, IsLift, IsLiftedDe
 ghost use Rattle.stage_store.specs.Published.{IsClosedNorm, IsPublish, IsFurther, GrowsOr};
 
 use crate::class::{Class, count_pairs, find_pair, lesser, pair_norm_above};
-use crate::gathering::{Found, take_norm};
 use crate::growing::{add_class, class_of, list_rows, make_room, merged_rows, waits_up_to};
 use crate::lifting::{extended, kept_solutions, units};
-use crate::numbered::{Hints, take_range};
+use crate::numbered::{Hints, gather_all, take_opened, take_range};
+use crate::opened::{Opened, open_norm};
+use crate::order::in_order;
+use crate::sieve::Sieve;
 use int_vector::{Visits, add_into, conformal, norm};
 use lift_core::{IntRow, System};
 use reduce_tree::Tree;
@@ -128,17 +126,20 @@ pub struct Stage {
     waited: u32,
     plus: Vec<Class>,
     minus: Vec<Class>,
+    sieve: Sieve,
+    ahead: Option<Opened>,
 }
 
 impl Model for Stage {
     ghost use Rattle.std.specs.Prelude.{drop};
-    ghost use Rattle.stage_store.specs.Stage.{StageValue, Holds};
+    ghost use Rattle.stage_store.specs.Stage.{StageValue};
+    ghost use Rattle.stage_store.specs.Fields.{Holds};
 
     ghost Value = { StageValue };
 
     ghost view = { λ s. record { system = s.system; number = s.number; norm = s.norm; before = s.before; listed = s.listed.rows; waiting = drop s.waited s.waiting.rows } };
 
-    ghost invariant = { λ s. Holds (record { system = s.system; number = s.number; norm = s.norm; before = s.before; listed = s.listed.rows; waiting = drop s.waited s.waiting.rows }) s.listed s.tree s.waiting s.waited s.used s.plus.items s.minus.items };
+    ghost invariant = { λ s. Holds (record { system = s.system; number = s.number; norm = s.norm; before = s.before; listed = s.listed.rows; waiting = drop s.waited s.waiting.rows }) s.listed s.tree s.waiting s.waited s.used s.plus.items s.minus.items s.sieve s.ahead };
 }
 
 impl Stage {
@@ -186,7 +187,7 @@ impl Stage {
         let waiting = extended(alloc, &system, number, &solutions)?;
         let listed = Pool::new(alloc, system.width() + 1);
         let tree = Tree::new(alloc, system.width() + 1);
-        Ok(Lifted::Next(Stage {
+        let mut stage = Stage {
             alloc,
             system,
             number,
@@ -199,7 +200,11 @@ impl Stage {
             waited: 0,
             plus: Vec::new(alloc),
             minus: Vec::new(alloc),
-        }))
+            sieve: Sieve::new(alloc)?,
+            ahead: None,
+        };
+        stage.prepare()?;
+        Ok(Lifted::Next(stage))
     }
 
     /// What begins with the solutions of this stage, which is finished: its rows with last entry 0, without it.
@@ -380,7 +385,7 @@ impl Stage {
         norm: u64,
         first: u64,
         count: u64,
-        _hints: &mut Hints,
+        hints: &mut Hints,
         sum: &mut [i64],
         rows: &mut Pool,
     )
@@ -394,7 +399,14 @@ impl Stage {
         ensures kept { length rows.old.rows ≤ length rows.new.rows }
         ensures gains { GainsNumbered self.now norm first (first + count) rows.old.rows rows.new.rows }
     {
-        take_range(self, norm, first, count, sum, rows);
+        // So the number of pairs is known to be in range.
+        let _pairs = self.pairs_at(norm);
+        match &self.ahead {
+            Some(opened) if opened.norm == norm => {
+                take_opened(self, opened, first, count, hints, sum, rows)
+            }
+            _ => take_range(self, norm, first, count, hints, sum, rows),
+        }
     }
 
     /// The irreducible sums of the next norm.
@@ -403,21 +415,12 @@ impl Stage {
         requires small { norm ≤ 9223372036854775807 }
         ensures { IfOk result (IsClosedNorm self.now norm) }
     {
-        let width = self.system.width() + 1;
-        let mut sum: Vec<i64> = vec![in alloc; 0; width as usize]?;
-        let mut found = Found::new(alloc, width);
-        take_norm(
-            alloc,
-            self,
-            &self.plus,
-            &self.minus,
-            norm,
-            &mut sum,
-            &mut found,
-        )?;
+        self.keeps();
+        let rows = gather_all(alloc, self, norm, self.pairs_at(norm))?;
+        let none = Pool::new(alloc, rows.width());
         Ok(Closed {
             norm,
-            rows: found.in_order(alloc)?,
+            rows: in_order(alloc, &rows, &none)?,
         })
     }
 
@@ -472,6 +475,56 @@ impl Stage {
         self.waited += growth.taken;
         self.used += growth.pairs;
         self.norm = closed.norm;
+        self.ahead = None;
+        // Where memory is refused here, the norm is closed all the same: its pairs are sifted with those of the next.
+        let _ = self.prepare();
+        Ok(())
+    }
+
+    /// Sifts the pairs of the rows that were listed since, and opens the next norm.
+    fn prepare(&mut self) -> Result<(), AllocError>
+        ensures { self.new ≡ self.old }
+    {
+        self.sift()?;
+        match self.next_norm() {
+            Some(Next::Norm(e)) => self.open(e),
+            _ => Ok(()),
+        }
+    }
+
+    /// Sifts the pairs of the rows that were listed since.
+    fn sift(&mut self) -> Result<(), AllocError>
+        ensures { self.new ≡ self.old }
+    {
+        self.sieve.sift(
+            self.alloc,
+            &self.system,
+            &self.listed,
+            &self.tree,
+            self.norm,
+        )
+    }
+
+    /// Opens a norm.
+    fn open(&mut self, e: u64) -> Result<(), AllocError>
+        requires { self.old.norm < e }
+        ensures { self.new ≡ self.old }
+    {
+        if self.sieve.rows != self.listed.len() {
+            return Ok(());
+        }
+        let width = self.system.width() as usize;
+        let shelf = &self.sieve.shelves[(e % 256) as usize];
+        let opened = open_norm(
+            self.alloc,
+            &self.listed,
+            width,
+            &self.plus,
+            &self.minus,
+            e,
+            shelf.pairs(),
+        )?;
+        self.ahead = Some(opened);
         Ok(())
     }
 }
