@@ -4,9 +4,11 @@ use Rattle.std.specs.Prelude.{ℤ}
 use Rattle.std.specs.List.{Contains}
 use Rattle.std.specs.List.Sorted.{IsStrictlySortedBy}
 use Rattle.lift_core.specs.Systems.{row}
-use Rattle.int_vector.specs.Vectors.{dot, add}
-use Rattle.lift_core.specs.Stages.{stage_norm, norm_cmp, IsStageVector, IsNewSum, IsNextNorm}
-use Rattle.lift_core.specs.Ends.{IsGrown, largest}
+use Rattle.int_vector.specs.Vectors.{dot, largest}
+use Rattle.int_vector.specs.Operations.{add}
+use Rattle.lift_core.specs.Stages.{stage_norm, norm_cmp, IsStageVector, IsNextNorm}
+use Rattle.lift_core.specs.Inside.PairSums.{IsNewSum}
+use Rattle.lift_core.specs.Inside.Walks.{IsGrown}
 use Rattle.lift_core.proofs.Lists.{each_contained, each_from_contained}
 use Rattle.lift_core.proofs.Growth.{stage_sum}
 use Rattle.lift_core.proofs.Systems.{solution_length}

@@ -7,8 +7,10 @@ use Rattle.std.proofs.lemmas.Bool.{cases_eq}
 use Rattle.std.proofs.lemmas.List.{take-append-drop, drop_more, length-take-le}
 use Rattle.std.proofs.lemmas.List.Elements.{Contains-append_left, Contains-append_right, Contains-append_cases}
 use Rattle.lift_core.specs.Lists.{IsListOf}
-use Rattle.lift_core.specs.Stages.{stage_norm, norm_cmp, lex_cmp, IsWaitingAt, IsNextNorm, IsNewSum}
-use Rattle.lift_core.specs.Ends.{IsGrown, still_waiting, largest}
+use Rattle.lift_core.specs.Stages.{stage_norm, norm_cmp, IsWaitingAt, IsNextNorm}
+use Rattle.int_vector.specs.Vectors.{lex_cmp, largest}
+use Rattle.lift_core.specs.Inside.PairSums.{IsNewSum}
+use Rattle.lift_core.specs.Inside.Walks.{IsGrown, still_waiting}
 use Rattle.lift_core.proofs.Lists.{contains_cases, contains_head, contains_tail, contains_nothing, each_contained, each_from_contained}
 use Rattle.lift_core.proofs.Orders.{norm_cmp_total, norm_same}
 use Rattle.stage_store.specs.Merge.{merged}

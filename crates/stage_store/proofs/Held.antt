@@ -1,10 +1,10 @@
 -- What a stage's fields keep, at the values that clauses see.
 use Rattle.std.proofs.Common.{◌≡◌, ℕ, zero, suc, ◌+◌, ◌^◌, ◌≤◌, ◌<◌, List, [], ◌∷◌, length, get_or, refl, ap, sym, ◌∙◌, subst, subst₂, arith, inl, inr, ◌⊎◌, Bool, true, Less}
-use Rattle.std.specs.Prelude.{ℤ, Option, Some, None, pos, ◌<ℤ◌, int_lt}
+use Rattle.std.specs.Prelude.{ℤ, Option, Some, None, pos, ◌<ℤ◌, int_lt, MatchOption}
 use Rattle.std.specs.List.{Contains, AllByRecursion, flat_map, sum_by}
 use Rattle.std.specs.List.Sorted.{IsStrictlySortedBy}
 use Rattle.lift_core.specs.Stages.{stage_norm, has_positive_last, has_negative_last, norm_cmp, last, IsPair, Occurs, IsNextNorm, HasNoNextNorm}
-use Rattle.lift_core.specs.Ends.{largest}
+use Rattle.int_vector.specs.Vectors.{largest, norm, lex_cmp}
 use Rattle.lift_core.proofs.Lists.{contains_cases, contains_head, contains_nothing, each_contained}
 use Rattle.lift_core.proofs.Orders.{in_filter, from_filter}
 use Rattle.stage_store.specs.Classes.{ClassValue, AreClasses, IsClass, IsPlace, row_at, rows_at, part_size, norm_at}
@@ -17,9 +17,6 @@ use Rattle.std.proofs.lemmas.Int.{ints}
 use Rattle.std.specs.Cmp.{nat_cmp_is}
 use Rattle.std.specs.Ordering.{ordering_then}
 use Rattle.std.proofs.Common.{Ordering, Greater, take, drop, get_or-drop}
-use Rattle.std.specs.Prelude.{MatchOption}
-use Rattle.int_vector.specs.Vectors.{norm}
-use Rattle.lift_core.specs.Stages.{lex_cmp}
 use Rattle.lift_core.proofs.Stages.{front-take}
 use Rattle.stage_store.proofs.Classes.{each_at}
 use Rattle.stage_store.proofs.Pairs.{parts_small}

@@ -9,11 +9,11 @@ use Rattle.std.proofs.lemmas.Bool.Decides.{Decides-int_eq}
 use Rattle.std.proofs.lemmas.List.{take_more, take_all, drop_more, map_more, length-map, map-append, take-append-drop}
 use Rattle.std.proofs.lemmas.List.Elements.{filter-append}
 use Rattle.std.proofs.lemmas.List.Kept.{IsStrictlySortedBy-filter}
-use Rattle.int_vector.specs.Vectors.{norm, dot}
+use Rattle.int_vector.specs.Vectors.{norm, dot, largest}
 use Rattle.lift_core.specs.Systems.{row, Solves}
-use Rattle.lift_core.specs.Extended.{extend}
-use Rattle.lift_core.specs.Stages.{front, last, norm_cmp, IsStageVector}
-use Rattle.lift_core.specs.Ends.{solution_cmp, solutions_in, leaves_range, largest}
+use Rattle.lift_core.specs.Stages.{extend, front, last, norm_cmp, IsStageVector}
+use Rattle.lift_core.specs.Ends.{solution_cmp, leaves_range}
+use Rattle.lift_core.specs.Inside.Walks.{solutions_in}
 use Rattle.lift_core.proofs.Lists.{each_from_contained, each_contained}
 use Rattle.lift_core.proofs.Stages.{front-take, last-push}
 use Rattle.lift_core.proofs.Growth.{stage_front}

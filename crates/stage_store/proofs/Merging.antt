@@ -3,7 +3,7 @@ use Rattle.std.proofs.Common.{ℕ, ◌≡◌, ◌+◌, ◌++◌, ◌<◌, ◌≤
 use Rattle.std.specs.Prelude.{ℤ}
 use Rattle.std.specs.List.Sorted.{IsStrictlySortedBy}
 use Rattle.std.proofs.lemmas.List.{get_or-take, length-take-le}
-use Rattle.lift_core.specs.Stages.{lex_cmp}
+use Rattle.int_vector.specs.Vectors.{lex_cmp}
 use Rattle.lift_core.proofs.Orders.{lex_cmp_total, lex_same}
 use Rattle.stage_store.specs.Merge.{merged}
 use Rattle.stage_store.proofs.Merge.{step_less, step_equal, step_greater, end_first, end_second}

@@ -5,7 +5,8 @@ use Rattle.std.specs.List.{AllByRecursion, Contains}
 use Rattle.std.proofs.lemmas.Bool.{cases_Bool}
 use Rattle.std.proofs.lemmas.List.{take-append-le, get_or_append_left, length-take-le}
 use Rattle.std.proofs.lemmas.List.Elements.{Contains-append_left}
-use Rattle.lift_core.specs.Systems.{LinearSystem, width}
+use Rattle.lift_core.specs.Systems.{LinearSystem}
+use Rattle.lift_core.specs.ToolSystems.{width}
 use Rattle.lift_core.specs.Stages.{stage_norm, has_positive_last, has_negative_last}
 use Rattle.stage_store.specs.declared.clashes.Clashes.{Clashes}
 use Rattle.stage_store.specs.declared.sieve.KeptPair.{KeptPair}

@@ -4,26 +4,24 @@ use Rattle.std.specs.Prelude.{ℤ, ◌↔◌}
 use Rattle.std.specs.List.{Contains}
 use Rattle.std.proofs.lemmas.Bool.{cases_lt}
 use Rattle.std.proofs.lemmas.List.Elements.{Contains-append_left, Contains-append_right, Contains-append_cases, Contains-get_or}
-use Rattle.int_vector.specs.Vectors.{◌⊑◌, add}
-use Rattle.lift_core.specs.Stages.{HasSum, IsIrreducible}
+use Rattle.int_vector.specs.Vectors.{◌⊑◌, lex_cmp, largest}
+use Rattle.int_vector.specs.Operations.{add}
+use Rattle.lift_core.specs.Inside.PairSums.{HasSum, IsIrreducible, IsNewSum}
 use Rattle.lift_core.proofs.Lists.{contains_cases, contains_head, contains_nothing}
-use Rattle.stage_store.specs.Stage.{StageValue}
+use Rattle.stage_store.specs.Stage.{StageValue, IsStage}
 use Rattle.stage_store.specs.Classes.{pairs_of, row_at, IsPairAt}
-use Rattle.stage_store.specs.Found.{IsSumOf}
+use Rattle.stage_store.specs.Found.{IsSumOf, IsReduced}
 use Rattle.std.proofs.Common.{get_or, Less, take, drop, length-append}
 use Rattle.std.proofs.lemmas.List.{length-take-le}
 use Rattle.std.specs.List.Sorted.{IsStrictlySortedBy, IsNonDecreasingBy}
 use Rattle.lift_core.specs.Lists.{IsListOf}
-use Rattle.lift_core.specs.Stages.{stage_norm, lex_cmp, norm_cmp, IsPair, IsNewSum, IsNextNorm}
-use Rattle.lift_core.specs.Ends.{largest}
+use Rattle.lift_core.specs.Stages.{stage_norm, norm_cmp, IsPair, IsNextNorm}
 use Rattle.lift_core.proofs.Lists.{contains_tail, each_contained, each_from_contained}
-use Rattle.stage_store.specs.Stage.{IsStage}
 use Rattle.stage_store.proofs.Classes.{get_or-default}
 use Rattle.stage_store.proofs.Numbering.{numbered}
 use Rattle.stage_store.proofs.Publish.{one_norm_order}
 use Rattle.stage_store.proofs.Closing.{sum_is_row}
 use Rattle.stage_store.specs.Numbered.{pair_at, IsSumNumbered, GainsNumbered, HasNoneBetween}
-use Rattle.stage_store.specs.Found.{IsReduced}
 use Rattle.stage_store.specs.Opened.{IsOpen, open_number}
 use Rattle.stage_store.specs.declared.opened.OpenPair.{OpenPair}
 

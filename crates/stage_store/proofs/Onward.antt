@@ -1,13 +1,14 @@
 -- The stage after a norm is closed: it is a stage, with the classes of its rows, and it is what `publish` promises.
 use Rattle.std.proofs.Common.{◌≡◌, ℕ, ◌+◌, ◌^◌, ◌≤◌, ◌<◌, List, [], ◌∷◌, ◌++◌, length, get_or, drop, refl, ap, ap₂, sym, ◌∙◌, subst, subst₂, arith, inl, inr, Bool, true, false, not, eqb, length-append, length-drop}
-use Rattle.std.specs.Prelude.{ℤ}
+use Rattle.std.specs.Prelude.{ℤ, Option, None}
 use Rattle.std.specs.List.{Contains, AllByRecursion, filter}
 use Rattle.std.proofs.lemmas.Bool.{cases_Bool, eqb-false, eq-eqb, not-true}
 use Rattle.std.proofs.lemmas.List.{drop-drop}
 use Rattle.std.proofs.lemmas.List.Elements.{Contains-append_cases}
 use Rattle.lift_core.specs.Systems.{LinearSystem, ToolSystem}
 use Rattle.lift_core.specs.Stages.{stage_norm, has_positive_last, has_negative_last, pairs_within, IsNextNorm, IsListed, IsWaiting, AreUsed}
-use Rattle.lift_core.specs.Ends.{still_waiting, used_up_to, largest}
+use Rattle.lift_core.specs.Inside.Walks.{still_waiting, used_up_to}
+use Rattle.int_vector.specs.Vectors.{largest}
 use Rattle.lift_core.proofs.Lists.{contains_cases, contains_nothing, each_contained}
 use Rattle.lift_core.proofs.Orders.{from_filter}
 use Rattle.lift_core.proofs.Places.{grown_listed, still_waits, used_next}
@@ -21,7 +22,6 @@ use Rattle.stage_store.specs.Sieve.{IsSieve}
 use Rattle.stage_store.specs.Opened.{IsAhead}
 use Rattle.stage_store.specs.declared.sieve.Sieve.{Sieve}
 use Rattle.stage_store.specs.declared.opened.Opened.{Opened}
-use Rattle.std.specs.Prelude.{Option, None}
 use Rattle.stage_store.proofs.MoreRows.{ids_after, sieve_after}
 use Rattle.stage_store.specs.Published.{IsGrowth, IsPublished, IsFurther}
 use Rattle.stage_store.specs.declared.stage.Growth.{Growth}

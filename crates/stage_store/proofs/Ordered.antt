@@ -7,7 +7,7 @@ use Rattle.std.specs.Ordering.{ordering_reverse}
 use Rattle.std.proofs.lemmas.Bool.{cases_order}
 use Rattle.std.proofs.lemmas.List.{get_or-map, take-append-drop, map-append, take-map, drop-map, get_or_append_left, get_or_push}
 use Rattle.std.proofs.lemmas.List.Elements.{Contains-append_left, Contains-append_right, Contains-append_cases}
-use Rattle.lift_core.specs.Stages.{lex_cmp}
+use Rattle.int_vector.specs.Vectors.{lex_cmp}
 use Rattle.lift_core.proofs.Lists.{contains_cases, contains_head, contains_tail, each_contained, each_from_contained}
 use Rattle.lift_core.proofs.Orders.{lex_cmp_total, lex_same}
 use Rattle.stage_store.specs.Classes.{row_at, rows_at}

@@ -1,28 +1,27 @@
 -- Reaches: two rows whose last entries are too far apart have no irreducible sum.
 use Rattle.std.proofs.Common.{◌≡◌, ℕ, zero, suc, ◌+◌, ◌≤◌, ◌<◌, List, [], ◌∷◌, ◌++◌, length, get_or, set, refl, ap, ap₂, sym, ◌∙◌, subst, arith, inl, inr, ◌⊎◌, Bool, true, false, length-append}
-use Rattle.std.specs.Prelude.{ℤ, pos, ◌<ℤ◌, ◌≤ℤ◌, ◌+ℤ◌, ◌*ℤ◌, neg_ℤ, nat_abs, int_lt, cond}
+use Rattle.std.specs.Prelude.{ℤ, pos, ◌<ℤ◌, ◌≤ℤ◌, ◌+ℤ◌, ◌*ℤ◌, neg_ℤ, nat_abs, int_lt, cond, MatchOption, IfSome}
 use Rattle.std.specs.List.{Contains, AllZip}
 use Rattle.std.proofs.lemmas.Bool.{cases_lt, cases_Bool}
 use Rattle.std.proofs.lemmas.Int.{ints}
 use Rattle.std.proofs.lemmas.List.{get_or_append_left, get_or-append-add}
 use Rattle.std.proofs.lemmas.List.Elements.{Contains-append_left}
-use Rattle.int_vector.specs.Vectors.{◌⊑◌, IsWithin, add, AreConformal}
+use Rattle.int_vector.specs.Vectors.{◌⊑◌, IsWithin}
+use Rattle.int_vector.specs.Operations.{add, AreConformal}
 use Rattle.int_vector.proofs.Vectors.{below_trans}
 use Rattle.lift_core.specs.Systems.{LinearSystem}
 use Rattle.lift_core.specs.Stages.{front, last}
 use Rattle.stage_store.specs.Classes.{row_at}
 use Rattle.stage_store.specs.Found.{IsReduced, IsSumOf}
-use Rattle.stage_store.specs.Sieve.{entry_against, with_reach, IsReachOr, AreReaches, AreFarApart}
+use Rattle.stage_store.specs.Sieve.{entry_against, with_reach, IsReachOr, AreReaches, AreFarApart, HasNoNewSum}
 use Rattle.std.proofs.Common.{subst₂, Option, Some, None}
-use Rattle.std.specs.Prelude.{MatchOption, IfSome}
 use Rattle.std.proofs.lemmas.List.Elements.{Contains-get_or}
-use Rattle.lift_core.specs.Stages.{IsIrreducible}
+use Rattle.lift_core.specs.Inside.PairSums.{IsIrreducible}
 use Rattle.lift_core.proofs.Stages.{last-get_or}
 use Rattle.row_pool.specs.declared.RowId.{RowId}
 use Rattle.row_pool.specs.Rows.{PoolValue}
 use Rattle.reduce_tree.specs.Tree.{TreeValue, AreNotBelow, places_of}
 use Rattle.stage_store.specs.Indexed.{HoldsRows}
-use Rattle.stage_store.specs.Sieve.{HasNoNewSum}
 use Rattle.stage_store.proofs.Indexed.{find_result}
 use Rattle.stage_store.proofs.Held.{less_is}
 

@@ -8,22 +8,20 @@ use Rattle.std.proofs.lemmas.Bool.{cases_lt, cases_eq}
 use Rattle.std.proofs.lemmas.Int.{ints}
 use Rattle.std.proofs.lemmas.List.{get_or-map, length-map, length-take-le}
 use Rattle.std.proofs.lemmas.List.Elements.{AllZip-get_or}
-use Rattle.int_vector.specs.Vectors.{AreConformal}
+use Rattle.int_vector.specs.Operations.{AreConformal}
 use Rattle.lift_core.specs.Systems.{LinearSystem}
-use Rattle.lift_core.specs.Stages.{HasSum, has_positive_last, has_negative_last}
+use Rattle.lift_core.specs.Inside.PairSums.{HasSum}
+use Rattle.lift_core.specs.Stages.{has_positive_last, has_negative_last, stage_norm}
 use Rattle.lift_core.proofs.Stages.{front-take}
 use Rattle.stage_store.specs.declared.clashes.Clashes.{Clashes}
-use Rattle.stage_store.specs.Classes.{row_at, rows_at}
+use Rattle.stage_store.specs.Classes.{row_at, rows_at, places}
 use Rattle.stage_store.specs.Clashes.{HasLines, TellsOf, TellClashes}
 use Rattle.stage_store.specs.Signs.{Opposes, entry_at}
-use Rattle.stage_store.specs.Classes.{places}
 use Rattle.stage_store.specs.declared.sieve.Sieve.{Sieve}
-use Rattle.stage_store.specs.Sieve.{AreSifted, IsSieve, IsNewSieve}
+use Rattle.stage_store.specs.Sieve.{AreSifted, IsSieve, IsNewSieve, IsKept, Stay, HasNoNewSumBy, IsSiftedBy, AreSiftedBy, AreSiftedFrom, AreWide, AreLines, pair_by}
 use Rattle.stage_store.proofs.Tables.{has_place, no_table}
-use Rattle.lift_core.specs.Stages.{stage_norm}
 use Rattle.stage_store.proofs.Classes.{each_at}
 use Rattle.stage_store.specs.declared.sieve.KeptPair.{KeptPair}
-use Rattle.stage_store.specs.Sieve.{IsKept, Stay, HasNoNewSumBy, IsSiftedBy, AreSiftedBy, AreSiftedFrom, AreWide, AreLines, pair_by}
 
 pub stay_through : (a b c : List (List KeptPair)) → Stay a b → Stay b c → Stay a c
 stay_through a b c h k = λ p x. k p (h p x)

@@ -1,15 +1,17 @@
 -- A stage at norm 0 is a stage, and its lists are the defined ones where its solutions are.
 use Rattle.std.proofs.Common.{◌≡◌, ℕ, suc, ◌+◌, ◌-◌, ◌*◌, ◌^◌, ◌≤◌, ◌<◌, List, [], ◌∷◌, length, refl, ap, ap₂, sym, ◌∙◌, subst, subst₂, arith, Bool, length-append}
-use Rattle.std.specs.Prelude.{ℤ, map, Result, Ok, Err, IfOk}
+use Rattle.std.specs.Prelude.{ℤ, map, Result, Ok, Err, IfOk, Option, None}
 use Rattle.std.specs.List.{All, Contains, AllByRecursion}
 use Rattle.std.proofs.lemmas.List.Elements.{All-get_or}
 use Rattle.std.specs.List.Sorted.{IsStrictlySortedBy}
 use Rattle.std.proofs.lemmas.List.{length-map}
-use Rattle.int_vector.specs.Vectors.{norm, dot}
-use Rattle.lift_core.specs.Systems.{ToolSystem, IsToolSystem, InRange, width, row, Solves}
-use Rattle.lift_core.specs.Extended.{extend}
-use Rattle.lift_core.specs.Stages.{stage_norm, norm_cmp, has_positive_last, has_negative_last, IsStageList, ArePairsBefore, AreUsed, all_pairs, HasNoNextNorm}
-use Rattle.lift_core.specs.Ends.{solution_cmp, IsSolutionList, solutions_in, largest}
+use Rattle.int_vector.specs.Vectors.{norm, dot, largest}
+use Rattle.lift_core.specs.Systems.{ToolSystem, row, Solves}
+use Rattle.lift_core.specs.ToolSystems.{IsToolSystem, width}
+use Rattle.int_vector.specs.Range.{InRange}
+use Rattle.lift_core.specs.Stages.{extend, stage_norm, norm_cmp, has_positive_last, has_negative_last, IsStageList, ArePairsBefore, AreUsed, all_pairs, HasNoNextNorm}
+use Rattle.lift_core.specs.Ends.{solution_cmp, IsSolutionList}
+use Rattle.lift_core.specs.Inside.Walks.{solutions_in}
 use Rattle.lift_core.proofs.Lists.{each_from_contained, each_contained}
 use Rattle.lift_core.proofs.Stages.{front-push}
 use Rattle.lift_core.proofs.Systems.{solution_length}
@@ -26,7 +28,6 @@ use Rattle.stage_store.specs.Sieve.{IsNewSieve}
 use Rattle.stage_store.specs.Opened.{AscendWithin, IsAhead}
 use Rattle.stage_store.specs.declared.sieve.Sieve.{Sieve}
 use Rattle.stage_store.specs.declared.opened.Opened.{Opened}
-use Rattle.std.specs.Prelude.{Option, None}
 use Rattle.stage_store.proofs.Sifting.{new_sieve}
 use Rattle.stage_store.specs.Lifted.{AreExtended, IsStart, StartsAt, StartsOr, IsFirst, IsLift, IsLiftedDefined}
 use Rattle.stage_store.specs.declared.stage.Lifted.{Lifted}

@@ -2,14 +2,13 @@
 use Rattle.std.proofs.Common.{◌≡◌, ℕ, zero, suc, ◌+◌, ◌≤◌, ◌<◌, List, [], ◌∷◌, length, get_or, take, refl, ap, sym, ◌∙◌, arith, subst, subst₂, Bool, true, false}
 use Rattle.std.specs.Prelude.{IsTrue, ℤ, pos, ◌+ℤ◌, ◌<ℤ◌, nat_abs}
 use Rattle.std.specs.List.{AllZip}
-use Rattle.int_vector.specs.Vectors.{AreConformal}
+use Rattle.int_vector.specs.Operations.{AreConformal, add}
 use Rattle.lift_core.specs.Systems.{LinearSystem, ObeysCaps}
-use Rattle.lift_core.specs.Stages.{HasSum, IsPair}
+use Rattle.lift_core.specs.Inside.PairSums.{HasSum}
+use Rattle.lift_core.specs.Stages.{IsPair, front, last, stage_norm}
 use Rattle.lift_core.proofs.Stages.{front-take, front-add, last-get_or}
 use Rattle.std.proofs.lemmas.Int.{ints}
-use Rattle.int_vector.specs.Vectors.{norm, add}
-use Rattle.lift_core.specs.Stages.{front, last, stage_norm}
-use Rattle.lift_core.specs.Ends.{largest}
+use Rattle.int_vector.specs.Vectors.{norm, largest}
 
 abbrev pub SumFits : ℤ → ℤ → Type 0
 SumFits x y = nat_abs (x +ℤ y) ≤ largest

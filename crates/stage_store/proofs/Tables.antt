@@ -9,7 +9,8 @@ use Rattle.stage_store.specs.Classes.{row_at, rows_at, places}
 use Rattle.stage_store.specs.Clashes.{HasLines, TellsOf}
 use Rattle.std.proofs.Common.{◌^◌, get_or-take}
 use Rattle.std.proofs.lemmas.List.{take-append-drop, take-append-le}
-use Rattle.lift_core.specs.Systems.{LinearSystem, width}
+use Rattle.lift_core.specs.Systems.{LinearSystem}
+use Rattle.lift_core.specs.ToolSystems.{width}
 use Rattle.stage_store.specs.declared.sieve.Table.{Table}
 use Rattle.stage_store.specs.Sieve.{AreLines, IsFullTable, IsTable}
 

@@ -10,12 +10,12 @@ use Rattle.std.proofs.lemmas.Int.{ints}
 use Rattle.std.proofs.lemmas.List.{set-set, set-get_or, get_or-replicate}
 use Rattle.std.proofs.lemmas.List.Elements.{Contains-append_left, Contains-append_right, Contains-append_cases}
 use borrow.Author.Differences.{same_in}
-use Rattle.int_vector.specs.Vectors.{norm, dot}
+use Rattle.int_vector.specs.Vectors.{norm, dot, lex_cmp, largest}
 use Rattle.int_vector.proofs.Vectors.{below_same, norm_positive, nonzero_from_norm}
-use Rattle.lift_core.specs.Systems.{LinearSystem, width, Solves, ObeysSigns, ObeysCaps}
-use Rattle.lift_core.specs.Stages.{lex_cmp}
-use Rattle.lift_core.specs.Units.{unit, IsSignedUnit}
-use Rattle.lift_core.specs.Ends.{solution_cmp, IsSolutionList, leaves_range, largest}
+use Rattle.lift_core.specs.Systems.{LinearSystem, Solves, ObeysSigns, ObeysCaps}
+use Rattle.lift_core.specs.ToolSystems.{width}
+use Rattle.lift_core.specs.Inside.Units.{unit, IsSignedUnit}
+use Rattle.lift_core.specs.Ends.{solution_cmp, IsSolutionList, leaves_range}
 use Rattle.lift_core.proofs.Units.{norm-unit, signed_unit_of}
 use Rattle.lift_core.proofs.Lists.{contains_cases, contains_head, contains_tail, contains_nothing, each_contained, each_from_contained}
 use Rattle.stage_store.specs.UnitVectors.{unit_column, unit_entry, unit_vector, IsUnitBefore, AreUnitsBefore}

@@ -1,7 +1,7 @@
 -- What next_norm answers.
 use Rattle.std.specs.Prelude.{ℕ, ◌≤◌, ◌<◌, List, ℤ, Option, Some, None}
 use Rattle.lift_core.specs.Stages.{IsNextNorm, HasNoNextNorm, IsWaitingAt}
-use Rattle.lift_core.specs.Ends.{largest}
+use Rattle.int_vector.specs.Vectors.{largest}
 use Rattle.stage_store.specs.Stage.{StageValue}
 use Rattle.stage_store.specs.declared.stage.Next.{Next}
 use Rattle.stage_store.specs.declared.stage.Next.TheVariants.{Norm, Overflow}

@@ -4,10 +4,11 @@ use Rattle.std.specs.Int.{bit_at}
 use Rattle.std.specs.List.{AllByRecursion, Contains}
 use Rattle.std.specs.List.Sorted.{IsStrictlySortedBy}
 use Rattle.std.specs.declared.cmp.Ordering.TheVariants.{Less}
-use Rattle.int_vector.specs.Vectors.{◌⊑◌, add}
+use Rattle.int_vector.specs.Vectors.{◌⊑◌, lex_cmp, largest}
+use Rattle.int_vector.specs.Operations.{add}
 use Rattle.lift_core.specs.Systems.{LinearSystem}
-use Rattle.lift_core.specs.Stages.{stage_norm, lex_cmp, IsPair, HasSum, IsIrreducible}
-use Rattle.lift_core.specs.Ends.{largest}
+use Rattle.lift_core.specs.Stages.{stage_norm, IsPair}
+use Rattle.lift_core.specs.Inside.PairSums.{HasSum, IsIrreducible}
 use Rattle.stage_store.specs.Classes.{row_at, rows_at}
 
 -- the width of the rows, and the rows in lexicographic order

@@ -1,5 +1,6 @@
-pub use Rattle.lift_core.specs.Units
+pub use Rattle.lift_core.specs.Inside.Units
 pub use Rattle.lift_core.specs.Systems
+pub use Rattle.lift_core.specs.ToolSystems
 pub use Rattle.lift_core.specs.Stages
 pub use Rattle.lift_core.specs.Ends
 pub use Rattle.row_pool.specs.Rows

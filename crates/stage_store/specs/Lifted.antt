@@ -1,9 +1,11 @@
 -- What `first` and `lift` answer: the stage that begins, or the finish.
 use Rattle.std.specs.Prelude.{◌≡◌, ℕ, ◌+◌, ◌≤◌, ◌<◌, List, [], ℤ, map, length, Some, None, Result, Ok, Err}
 use Rattle.std.specs.List.{find}
-use Rattle.lift_core.specs.Systems.{ToolSystem, width, row}
-use Rattle.lift_core.specs.Extended.{extend}
-use Rattle.lift_core.specs.Ends.{leaves_range, solutions_in, IsSolutionList}
+use Rattle.lift_core.specs.Systems.{ToolSystem, row}
+use Rattle.lift_core.specs.ToolSystems.{width}
+use Rattle.lift_core.specs.Stages.{extend}
+use Rattle.lift_core.specs.Ends.{leaves_range, IsSolutionList}
+use Rattle.lift_core.specs.Inside.Walks.{solutions_in}
 use Rattle.row_pool.specs.Rows.{PoolValue}
 use Rattle.stage_store.specs.Stage.{StageValue, IsDefined, used_of}
 use Rattle.stage_store.specs.declared.stage.Finish.{Finish}

@@ -1,10 +1,11 @@
 -- What `publish` makes of a stage, and what it answers.
 use Rattle.std.specs.Prelude.{◌≡◌, ℕ, ◌+◌, ◌≤◌, ◌<◌, ◌⊎◌, List, ◌++◌, drop, ℤ, length, Result, Ok, Err}
-use Rattle.lift_core.specs.Systems.{width}
+use Rattle.lift_core.specs.ToolSystems.{width}
 use Rattle.lift_core.specs.Lists.{IsListOf}
 use Rattle.std.specs.List.{AllByRecursion}
-use Rattle.lift_core.specs.Stages.{norm_cmp, stage_norm, has_positive_last, has_negative_last, IsNewSum}
-use Rattle.lift_core.specs.Ends.{IsGrown, still_waiting, used_up_to}
+use Rattle.lift_core.specs.Stages.{norm_cmp, stage_norm, has_positive_last, has_negative_last}
+use Rattle.lift_core.specs.Inside.PairSums.{IsNewSum}
+use Rattle.lift_core.specs.Inside.Walks.{IsGrown, still_waiting, used_up_to}
 use Rattle.stage_store.specs.Stage.{StageValue, used_of}
 use Rattle.stage_store.specs.Classes.{places, pairs_of}
 use Rattle.stage_store.specs.declared.stage.Closed.{Closed}

@@ -4,7 +4,7 @@ use Rattle.std.specs.Borrow.{Bor}
 use Rattle.std.specs.List.{Contains}
 use Rattle.std.specs.List.Sorted.{IsStrictlySortedBy}
 use Rattle.row_pool.specs.Rows.{InRange}
-use Rattle.lift_core.specs.Stages.{lex_cmp}
+use Rattle.int_vector.specs.Vectors.{lex_cmp}
 
 -- the rows behind references
 abbrev pub rows_behind : List (Bor (List ℤ)) → List (List ℤ)

@@ -1,8 +1,9 @@
 -- The unit vectors and their negatives in lexicographic order, by a number.
 use Rattle.std.specs.Prelude.{◌≡◌, ℕ, ◌-◌, ◌*◌, ◌<◌, List, ℤ, pos, negsuc, cond, nat_lt}
-use Rattle.lift_core.specs.Systems.{LinearSystem, width, ObeysSigns, ObeysCaps}
+use Rattle.lift_core.specs.Systems.{LinearSystem, ObeysSigns, ObeysCaps}
+use Rattle.lift_core.specs.ToolSystems.{width}
 use Rattle.lift_core.specs.Lists.{IsListOf}
-use Rattle.lift_core.specs.Units.{unit}
+use Rattle.lift_core.specs.Inside.Units.{unit}
 use Rattle.lift_core.specs.Ends.{solution_cmp}
 
 -- of n columns: the negative ones by ascending column, and then the others by descending column

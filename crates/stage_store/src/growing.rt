@@ -3,7 +3,8 @@
 ghost use Rattle.std.specs.Prelude.{◌≡◌, ◌↔◌, IsTrue, ◌+◌, ◌-◌, ◌<◌, ◌≤◌, ◌^◌, ◌++◌, ℕ, List, [], length, take, drop, slice_index_or, IfOk, OnOk, OnErr, vec_len, vec_capacity};
 ghost use Rattle.std.specs.List.{AllByRecursion};
 ghost use Rattle.std.specs.List.Sorted.{IsStrictlySortedBy};
-ghost use Rattle.lift_core.specs.Stages.{lex_cmp, stage_norm};
+ghost use Rattle.int_vector.specs.Vectors.{lex_cmp};
+ghost use Rattle.lift_core.specs.Stages.{stage_norm};
 ghost use Rattle.stage_store.specs.Indexed.{HoldsRows};
 ghost use Rattle.stage_store.specs.Merge.{merged};
 ghost use Rattle.stage_store.specs.Classes.{places, sign_test, with_class};

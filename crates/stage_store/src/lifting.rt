@@ -6,8 +6,9 @@ ghost use Rattle.std.specs.List.{AllByRecursion};
 ghost use Rattle.int_vector.specs.Vectors.{norm};
 ghost use Rattle.std.specs.Ordering.{int_eq};
 ghost use Rattle.lift_core.specs.Stages.{last};
-ghost use Rattle.lift_core.specs.Systems.{width};
-ghost use Rattle.lift_core.specs.Ends.{IsSolutionList, solutions_in};
+ghost use Rattle.lift_core.specs.ToolSystems.{width};
+ghost use Rattle.lift_core.specs.Ends.{IsSolutionList};
+ghost use Rattle.lift_core.specs.Inside.Walks.{solutions_in};
 ghost use Rattle.stage_store.specs.Lifted.{ExtendsOr};
 ghost use Rattle.stage_store.specs.UnitVectors.{unit_column, unit_entry};
 

@@ -2,7 +2,7 @@
 
 ghost use Rattle.std.specs.Prelude.{◌≡◌, ◌⊎◌, ◌≤◌, ◌<◌, ◌+◌, ◌^◌, ℕ, [], length, slice_index_or, IfSome, IfOk, OnOk, IsTrue};
 ghost use Rattle.std.specs.List.Sorted.{IsNonDecreasingBy};
-ghost use Rattle.lift_core.specs.Systems.{width};
+ghost use Rattle.lift_core.specs.ToolSystems.{width};
 ghost use Rattle.stage_store.specs.Classes.{pairs_of, IsPairAt};
 ghost use Rattle.stage_store.specs.Found.{IsReduced};
 ghost use Rattle.stage_store.specs.Numbered.{GainsNumbered, HasNoneBetween};

@@ -3,7 +3,7 @@
 ghost use Rattle.std.specs.Prelude.{◌≡◌, ◌⊎◌, ◌≤◌, ◌<◌, ◌++◌, ◌^◌, ℕ, ℤ, List, length, IfOk, OnOk, All};
 ghost use Rattle.std.specs.List.{Contains};
 ghost use Rattle.lift_core.specs.Lists.{IsListOf};
-ghost use Rattle.lift_core.specs.Stages.{lex_cmp};
+ghost use Rattle.int_vector.specs.Vectors.{lex_cmp};
 ghost use Rattle.row_pool.specs.Rows.{InRange};
 ghost use Rattle.stage_store.specs.Sorting.{rows_behind, IsOrdered, AreFit};
 

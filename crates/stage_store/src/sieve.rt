@@ -6,7 +6,8 @@
 ghost use Rattle.std.specs.Prelude.{◌≡◌, ◌+◌, ◌-◌, ◌*◌, ◌/◌, ◌%◌, ◌<◌, ◌≤◌, ◌^◌, ◌++◌, ◌∷◌, [], ℕ, ℤ, List, length, take, drop, true, false, Bool, slice_index_or, OnOk, OnErr, IfOk, IsTrue, All, pos, ◌↔◌};
 ghost use Rattle.std.specs.Int.{bit_at};
 ghost use Rattle.std.specs.List.{AllByRecursion, Contains};
-ghost use Rattle.lift_core.specs.Systems.{LinearSystem, width};
+ghost use Rattle.lift_core.specs.Systems.{LinearSystem};
+ghost use Rattle.lift_core.specs.ToolSystems.{width};
 ghost use Rattle.row_pool.specs.Rows.{InRange};
 ghost use Rattle.stage_store.specs.Indexed.{HoldsRows};
 ghost use Rattle.lift_core.specs.Stages.{stage_norm, has_positive_last, has_negative_last};

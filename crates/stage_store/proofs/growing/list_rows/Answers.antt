@@ -1,12 +1,20 @@
-use Rattle.std.proofs.Common.{◌≡◌, ◌∙◌, ℕ, List, ◌++◌, ◌∷◌, [], length, take, ap, sym, subst, arith}
+use Rattle.std.proofs.Common.{◌≡◌, ◌∙◌, ℕ, List, ◌++◌, ◌∷◌, [], length, take, refl, ap, sym, subst, arith}
 use Rattle.std.specs.Prelude.{ℤ}
 use Rattle.std.specs.List.{range_with_len}
 use Rattle.std.proofs.lemmas.List.FromFn.{length-range_with_len}
 use Rattle.std.proofs.Math.Seq.{take-append_seam}
 use Rattle.row_pool.specs.Rows.{PoolValue}
 use Rattle.reduce_tree.specs.Tree.{TreeValue, Fits, places_of}
+use Rattle.reduce_tree.proofs.Pools.{fits_grown}
 use Rattle.stage_store.proofs.Indexed.{range_more, holds_cut}
 use Rattle.stage_store.proofs.growing.list_rows.Goals as goal
+
+pub loop-i-init : goal.loop-i-init
+loop-i-init c = record {
+  listed = refl;
+  fits = fits_grown c.args.tree.now c.args.listed.now c.append_from.new.self c.args.rows.now.rows c.requires.held.fits c.append_from.ensures.width c.append_from.ensures.rows;
+  places = c.requires.held.places ∙ ap (λ n. range_with_len 0 n) (sym c.len-from.ensures);
+}
 
 pub truncate-requires : goal.truncate-requires
 truncate-requires c =

@@ -1,5 +1,5 @@
 use Rattle.std.proofs.Common.{◌++◌, ◌<◌, ◌∙◌, arith, length, take, drop}
-use Rattle.lift_core.specs.Stages.{lex_cmp}
+use Rattle.int_vector.specs.Vectors.{lex_cmp}
 use Rattle.stage_store.specs.Merge.{merged}
 use Rattle.stage_store.proofs.Merging.{merge_less, merge_equal, merge_greater, merge_first_done, merge_second_done}
 use Rattle.stage_store.proofs.growing.merge_into.Goals as goal

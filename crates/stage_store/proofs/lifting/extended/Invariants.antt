@@ -1,8 +1,9 @@
 use Rattle.std.proofs.Common.{◌≡◌, ◌+◌, ◌≤◌, take, length, None}
 use Rattle.std.specs.Prelude.{map}
 use Rattle.std.specs.List.{find}
-use Rattle.lift_core.specs.Systems.{width, row}
-use Rattle.lift_core.specs.Extended.{extend}
+use Rattle.lift_core.specs.ToolSystems.{width}
+use Rattle.lift_core.specs.Systems.{row}
+use Rattle.lift_core.specs.Stages.{extend}
 use Rattle.lift_core.specs.Ends.{leaves_range}
 use Rattle.stage_store.proofs.lifting.extended.Given as goal
 

@@ -1,6 +1,6 @@
 use Rattle.std.proofs.Common.{◌≡◌, ◌∙◌, sym, ap, arith, rules, subst, SFits, w64, to_z-of_z, to_z, of_z, ◌<◌, ◌+◌, ◌*◌, refl, length, length-append, ◌++◌, ◌∷◌, []}
 use Rattle.std.specs.Prelude.{List, ℤ}
-use Rattle.lift_core.specs.Systems.{width}
+use Rattle.lift_core.specs.ToolSystems.{width}
 use Rattle.row_pool.specs.Rows.{PoolValue}
 use Rattle.stage_store.proofs.Sums.{not_true}
 use Rattle.stage_store.specs.UnitVectors.{unit_vector, AreUnitsBefore}

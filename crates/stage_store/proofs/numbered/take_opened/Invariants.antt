@@ -1,5 +1,5 @@
 use Rattle.std.proofs.Common.{◌≡◌, ℕ, ◌+◌, ◌-◌, ◌≤◌, ◌<◌, length, slice_index_or}
-use Rattle.lift_core.specs.Systems.{width}
+use Rattle.lift_core.specs.ToolSystems.{width}
 use Rattle.stage_store.specs.declared.opened.OpenPair.{OpenPair}
 use Rattle.stage_store.specs.Numbered.{GainsNumbered}
 use Rattle.stage_store.specs.Opened.{open_number}

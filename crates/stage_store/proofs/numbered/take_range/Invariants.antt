@@ -1,5 +1,5 @@
 use Rattle.std.proofs.Common.{◌≡◌, ◌≤◌, ◌+◌, length}
-use Rattle.lift_core.specs.Systems.{width}
+use Rattle.lift_core.specs.ToolSystems.{width}
 use Rattle.stage_store.specs.Numbered.{GainsNumbered}
 use Rattle.stage_store.proofs.numbered.take_range.Given as goal
 

@@ -2,7 +2,7 @@ use Rattle.std.proofs.Common.{◌≡◌, ◌∙◌, ◌+◌, ◌-◌, ◌*◌, �
 use Rattle.std.specs.Prelude.{ℤ}
 use Rattle.std.specs.List.{AllByRecursion}
 use Rattle.std.proofs.lemmas.List.{length-take-le}
-use Rattle.lift_core.specs.Systems.{width}
+use Rattle.lift_core.specs.ToolSystems.{width}
 use Rattle.stage_store.specs.Classes.{row_at, rows_at}
 use Rattle.stage_store.specs.Clashes.{TellsOf, TellClashes}
 use Rattle.stage_store.specs.Sieve.{AreSiftedBy}

@@ -1,6 +1,6 @@
 use Rattle.std.proofs.Common.{◌≡◌, ℕ, arith, subst, length}
 use Rattle.std.specs.Prelude.{OnOk}
-use Rattle.lift_core.specs.Systems.{width}
+use Rattle.lift_core.specs.ToolSystems.{width}
 use Rattle.lift_core.specs.Stages.{has_positive_last, has_negative_last}
 use Rattle.stage_store.specs.Sieve.{AreLines, IsTable}
 use Rattle.stage_store.proofs.Tables.{full_table, whole_table, on_ok_table, on_ok_always}

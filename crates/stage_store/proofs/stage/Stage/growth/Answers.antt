@@ -2,7 +2,7 @@ use Rattle.std.proofs.Common.{◌≡◌, ◌∙◌, sym, arith, ap, subst, ℕ, 
 use Rattle.std.specs.Prelude.{List, ℤ, true, false}
 use Rattle.std.specs.List.Sorted.{IsStrictlySortedBy}
 use Rattle.std.proofs.lemmas.List.{drop-take}
-use Rattle.lift_core.specs.Stages.{lex_cmp}
+use Rattle.int_vector.specs.Vectors.{lex_cmp}
 use Rattle.stage_store.specs.Merge.{merged}
 use Rattle.stage_store.specs.Classes.{places, sign_test}
 use Rattle.stage_store.specs.Stage.{IsStage, waiting_of, listed_of, width_of}

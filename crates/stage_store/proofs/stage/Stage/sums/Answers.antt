@@ -2,7 +2,7 @@ use Rattle.std.proofs.Common.{◌≡◌, refl, ◌∙◌, ap, sym, subst, arith,
 use Rattle.std.specs.Prelude.{ℤ}
 use Rattle.std.specs.List.{Contains}
 use Rattle.lift_core.specs.Lists.{IsListOf}
-use Rattle.lift_core.specs.Stages.{lex_cmp}
+use Rattle.int_vector.specs.Vectors.{lex_cmp}
 use Rattle.stage_store.proofs.NumberedSums.{all_gathered}
 use Rattle.stage_store.proofs.stage.Stage.sums.Goals as goal
 
