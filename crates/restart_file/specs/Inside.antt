@@ -1,3 +1,4 @@
 -- What private contracts alone cite.
 pub mod Sending
 pub mod Classes
+pub mod Words

@@ -6,6 +6,7 @@
 
 mod classes;
 mod lines;
+mod numbers;
 mod writing;
 
 pub use lines::Version;

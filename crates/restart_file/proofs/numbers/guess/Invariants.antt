@@ -1,0 +1,13 @@
+use Rattle.std.proofs.Common.{◌≡◌, ℕ, ◌<◌, ◌≤◌, length, take, drop, get_or, List}
+use Rattle.std.specs.Prelude.{ℤ}
+use Rattle.std.specs.List.{AllByRecursion, AllWithin}
+use Rattle.lift_core.specs.Systems.{InRange}
+use Rattle.mat_files.specs.Texts.{line_of}
+use Rattle.restart_file.specs.Inside.Words.{IsGuessed}
+use Rattle.restart_file.proofs.numbers.guess.Given as goal
+
+abbrev pub invariant-loop-i : goal.invariant-loop-i
+invariant-loop-i l = record {
+  guessed : (zs : List ℤ) → length zs ≡ length l.cells → AllByRecursion InRange zs → l.text ≡ line_of zs → IsGuessed zs l.i l.cells l.rest;
+  range : AllWithin InRange l.cells 0 l.i;
+}
