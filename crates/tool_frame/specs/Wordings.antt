@@ -2,7 +2,7 @@
 use Rattle.std.specs.Prelude.{ℕ, List, [], ◌∷◌, ◌++◌, Option, None, Some, codes, decimal}
 use Rattle.outside.specs.Pieces.{text_of_parts}
 use Rattle.mat_files.specs.declared.faults.TextFault.{TextFault}
-use Rattle.mat_files.specs.declared.faults.TextFault.TheVariants.{NotNumber, NotRelation, OutOfRange, Early, Extra, TooManyRows, TooManyCols, NoCols}
+use Rattle.mat_files.specs.declared.faults.TextFault.TheVariants.{NotNumber, NotRelation, NotCap, OutOfRange, Early, Extra, TooManyRows, TooManyCols, NoCols}
 use Rattle.system_files.specs.declared.faults.FileFault.{FileFault}
 use Rattle.system_files.specs.declared.faults.FileFault.TheVariants.{Missing, TooLong, Text}
 use Rattle.tool_frame.specs.declared.wordings.Wording.{Wording}
@@ -33,6 +33,7 @@ with_numbers before m between n after = five_parts before (Some m) between (Some
 abbrev pub text_fault_text : Limits → TextFault → List (List ℕ)
 text_fault_text limits (NotNumber at) = with_number (codes "byte ") at (codes ": not a number")
 text_fault_text limits (NotRelation at) = with_number (codes "byte ") at (codes ": not a relation")
+text_fault_text limits (NotCap at) = with_number (codes "byte ") at (codes ": not a cap")
 text_fault_text limits (OutOfRange at) = with_number (codes "byte ") at (codes ": out of range")
 text_fault_text limits (Early at) = with_number (codes "byte ") at (codes ": more expected")
 text_fault_text limits (Extra at) = with_number (codes "byte ") at (codes ": nothing more expected")

@@ -69,6 +69,7 @@ fn text_wording(fault: &TextFault, limits: Limits) -> Wording
     match fault {
         TextFault::NotNumber { at } => at_byte(*at, ": not a number"),
         TextFault::NotRelation { at } => at_byte(*at, ": not a relation"),
+        TextFault::NotCap { at } => at_byte(*at, ": not a cap"),
         TextFault::OutOfRange { at } => at_byte(*at, ": out of range"),
         TextFault::Early { at } => at_byte(*at, ": more expected"),
         TextFault::Extra { at } => at_byte(*at, ": nothing more expected"),
