@@ -17,7 +17,7 @@ use Rattle.std.proofs.lemmas.Bool.{cases_lt}
 use Rattle.std.specs.Cmp.Lexicographic.{texts_ties}
 use lib.Pointwise.{pointwise}
 use Rattle.outside.proofs.FileMaps.{own_name}
-use Rattle.lift_core.specs.Systems.{InRange}
+use Rattle.int_vector.specs.Range.{InRange}
 use Rattle.mat_files.specs.Words.{is_blank}
 use Rattle.mat_files.specs.Texts.{line_of, joined_cells}
 use Rattle.mat_files.proofs.DigitLemmas.{word-signed_decimal}

@@ -1,7 +1,7 @@
 use Rattle.std.proofs.Common.{rules, arith, length, ◌<◌, subst, sym, SFits, w64, to_z, of_z, to_z-of_z, ◌∙◌, ◌≡◌}
 use Rattle.std.proofs.lemmas.List.{length-set}
 use Rattle.std.specs.Prelude.{ℤ}
-use Rattle.lift_core.specs.Systems.{InRange}
+use Rattle.int_vector.specs.Range.{InRange}
 use Rattle.restart_file.proofs.Numerals.{guessed_more, range_more}
 use Rattle.restart_file.proofs.numbers.guess.Goals as goal
 
