@@ -44,7 +44,6 @@ pub struct Turn<'s> {
 }
 
 impl<'s> Model for Turn<'s> {
-
     ghost Value = { BookValue };
 
     ghost view = { λ t. t.book };
