@@ -44,6 +44,8 @@ pub struct Turn<'s> {
 }
 
 impl<'s> Model for Turn<'s> {
+    ghost use Rattle.norm_board.specs.Books.{BookValue};
+
     ghost Value = { BookValue };
 
     ghost view = { λ t. t.book };

@@ -3,14 +3,12 @@
 
 mod clashes;
 mod class;
+mod gathering;
 mod growing;
 pub mod laws;
 mod lifting;
 mod numbered;
-mod opened;
 mod order;
-mod reach;
-mod sieve;
 mod stage;
 
 pub use numbered::Hints;

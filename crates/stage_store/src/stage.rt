@@ -22,12 +22,10 @@ ghost use Rattle.stage_store.specs.Lifted.{StartsOr, IsFirst, IsLift, IsLiftedDe
 ghost use Rattle.stage_store.specs.Published.{IsClosedNorm, IsPublish, IsFurther, GrowsOr};
 
 use crate::class::{Class, count_pairs, find_pair, lesser, pair_norm_above};
+use crate::gathering::{Found, take_norm};
 use crate::growing::{add_class, class_of, list_rows, make_room, merged_rows, waits_up_to};
 use crate::lifting::{extended, kept_solutions, units};
-use crate::numbered::{Hints, gather_all, take_opened, take_range};
-use crate::opened::{Opened, open_norm};
-use crate::order::in_order;
-use crate::sieve::Sieve;
+use crate::numbered::{Hints, take_range};
 use int_vector::{Visits, add_into, conformal, norm};
 use lift_core::{IntRow, System};
 use reduce_tree::Tree;
@@ -130,20 +128,17 @@ pub struct Stage {
     waited: u32,
     plus: Vec<Class>,
     minus: Vec<Class>,
-    sieve: Sieve,
-    ahead: Option<Opened>,
 }
 
 impl Model for Stage {
     ghost use Rattle.std.specs.Prelude.{drop};
-    ghost use Rattle.stage_store.specs.Stage.{StageValue};
-    ghost use Rattle.stage_store.specs.Fields.{Holds};
+    ghost use Rattle.stage_store.specs.Stage.{StageValue, Holds};
 
     ghost Value = { StageValue };
 
     ghost view = { λ s. record { system = s.system; number = s.number; norm = s.norm; before = s.before; listed = s.listed.rows; waiting = drop s.waited s.waiting.rows } };
 
-    ghost invariant = { λ s. Holds (record { system = s.system; number = s.number; norm = s.norm; before = s.before; listed = s.listed.rows; waiting = drop s.waited s.waiting.rows }) s.listed s.tree s.waiting s.waited s.used s.plus.items s.minus.items s.sieve s.ahead };
+    ghost invariant = { λ s. Holds (record { system = s.system; number = s.number; norm = s.norm; before = s.before; listed = s.listed.rows; waiting = drop s.waited s.waiting.rows }) s.listed s.tree s.waiting s.waited s.used s.plus.items s.minus.items };
 }
 
 impl Stage {
@@ -191,7 +186,7 @@ impl Stage {
         let waiting = extended(alloc, &system, number, &solutions)?;
         let listed = Pool::new(alloc, system.width() + 1);
         let tree = Tree::new(alloc, system.width() + 1);
-        let mut stage = Stage {
+        Ok(Lifted::Next(Stage {
             alloc,
             system,
             number,
@@ -204,11 +199,7 @@ impl Stage {
             waited: 0,
             plus: Vec::new(alloc),
             minus: Vec::new(alloc),
-            sieve: Sieve::new(alloc)?,
-            ahead: None,
-        };
-        stage.prepare()?;
-        Ok(Lifted::Next(stage))
+        }))
     }
 
     /// What begins with the solutions of this stage, which is finished: its rows with last entry 0, without it.
@@ -389,7 +380,7 @@ impl Stage {
         norm: u64,
         first: u64,
         count: u64,
-        hints: &mut Hints,
+        _hints: &mut Hints,
         sum: &mut [i64],
         rows: &mut Pool,
     )
@@ -403,14 +394,7 @@ impl Stage {
         ensures kept { length rows.old.rows ≤ length rows.new.rows }
         ensures gains { GainsNumbered self.now norm first (first + count) rows.old.rows rows.new.rows }
     {
-        // So the number of pairs is known to be in range.
-        let _pairs = self.pairs_at(norm);
-        match &self.ahead {
-            Some(opened) if opened.norm == norm => {
-                take_opened(self, opened, first, count, hints, sum, rows)
-            }
-            _ => take_range(self, norm, first, count, hints, sum, rows),
-        }
+        take_range(self, norm, first, count, sum, rows);
     }
 
     /// The irreducible sums of the next norm.
@@ -419,12 +403,21 @@ impl Stage {
         requires small { norm ≤ 9223372036854775807 }
         ensures { IfOk result (IsClosedNorm self.now norm) }
     {
-        self.keeps();
-        let rows = gather_all(alloc, self, norm, self.pairs_at(norm))?;
-        let none = Pool::new(alloc, rows.width());
+        let width = self.system.width() + 1;
+        let mut sum: Vec<i64> = vec![in alloc; 0; width as usize]?;
+        let mut found = Found::new(alloc, width);
+        take_norm(
+            alloc,
+            self,
+            &self.plus,
+            &self.minus,
+            norm,
+            &mut sum,
+            &mut found,
+        )?;
         Ok(Closed {
             norm,
-            rows: in_order(alloc, &rows, &none)?,
+            rows: found.in_order(alloc)?,
         })
     }
 
@@ -479,56 +472,6 @@ impl Stage {
         self.waited += growth.taken;
         self.used += growth.pairs;
         self.norm = closed.norm;
-        self.ahead = None;
-        // Where memory is refused here, the norm is closed all the same: its pairs are sifted with those of the next.
-        let _ = self.prepare();
-        Ok(())
-    }
-
-    /// Sifts the pairs of the rows that were listed since, and opens the next norm.
-    fn prepare(&mut self) -> Result<(), AllocError>
-        ensures { self.new ≡ self.old }
-    {
-        self.sift()?;
-        match self.next_norm() {
-            Some(Next::Norm(e)) => self.open(e),
-            _ => Ok(()),
-        }
-    }
-
-    /// Sifts the pairs of the rows that were listed since.
-    fn sift(&mut self) -> Result<(), AllocError>
-        ensures { self.new ≡ self.old }
-    {
-        self.sieve.sift(
-            self.alloc,
-            &self.system,
-            &self.listed,
-            &self.tree,
-            self.norm,
-        )
-    }
-
-    /// Opens a norm.
-    fn open(&mut self, e: u64) -> Result<(), AllocError>
-        requires { self.old.norm < e }
-        ensures { self.new ≡ self.old }
-    {
-        if self.sieve.rows != self.listed.len() {
-            return Ok(());
-        }
-        let width = self.system.width() as usize;
-        let shelf = &self.sieve.shelves[(e % 256) as usize];
-        let opened = open_norm(
-            self.alloc,
-            &self.listed,
-            width,
-            &self.plus,
-            &self.minus,
-            e,
-            shelf.pairs(),
-        )?;
-        self.ahead = Some(opened);
         Ok(())
     }
 }

@@ -1,0 +1,10 @@
+use Rattle.std.proofs.Common.{◌≡◌, ◌*◌, take, length}
+use Rattle.std.specs.Prelude.{map}
+use Rattle.stage_store.specs.Found.{GainsSums, place_pair}
+use Rattle.stage_store.proofs.gathering.take_row.Given as goal
+
+abbrev pub invariant-loop-word : goal.invariant-loop-word
+invariant-loop-word l = record {
+  room : length l.sum ≡ length l.fn.sum;
+  gains : GainsSums l.stage.system.equations l.stage.listed (map (place_pair l.f) (take (64 * l.word) l.seconds)) l.fn.found l.found;
+}
