@@ -3,9 +3,7 @@ use Rattle.std.proofs.Common.{◌≡◌, ◌<◌, ◌≤◌, ◌+◌, ◌-◌, �
 use Rattle.std.specs.Prelude.{ℤ, Option, None, Some, map, replicate}
 use Rattle.std.proofs.lemmas.List.{length-append, length-replicate, get_or-map, length-map, length-drop}
 use Rattle.std.proofs.Math.Seq.{drop-cons}
-use Rattle.lift_core.specs.declared.Tool.{Tool}
-use Rattle.lift_core.specs.declared.Tool.TheVariants.{Graver, Hilbert, Zsolve}
-use Rattle.lift_core.specs.Systems.{ToolSystem, caps_of}
+use Rattle.lift_core.specs.Systems.{ToolSystem}
 use Rattle.lift_core.specs.ToolSystems.{IsToolSystem, width}
 use Rattle.restart_file.specs.Texts.{spaced, cap_text, row_line}
 
@@ -72,13 +70,5 @@ row_behind_four a b c d rows zero h l = absurd (omega (arith, h))
 row_behind_four a b c d rows (suc i) h l = row_behind_three b c d rows i (omega (arith, h)) (omega (arith, l)) ∙ ap (λ j. row_line (get_or rows j [])) (omega (arith, h))
 
 -- ---- the caps are as many as the columns
-abbrev no_cap : Option ℕ
-no_cap = None
-
-of_tool : (tool : Tool) (n : ℕ) (T : ToolSystem) → IsToolSystem T → tool ≡ T.tool → length (caps_of tool (width T.equations)) ≡ width T.equations
-of_tool Graver n T h e = length-replicate (width T.equations) None
-of_tool Hilbert n T h e = length-replicate (width T.equations) None
-of_tool Zsolve n T h e = omega (arith, length-append (replicate (width T.equations - 1) no_cap) (Some 1 ∷ []), length-replicate (width T.equations - 1) no_cap, h.some_columns, h.first_columns)
-
 pub caps_length : (T : ToolSystem) → IsToolSystem T → length T.equations.caps ≡ width T.equations
-caps_length T h = ap length h.caps ∙ of_tool T.tool T.n T h refl
+caps_length T h = h.cap_count
