@@ -17,4 +17,4 @@ pub use files::{file_name, read_grid_file};
 pub use kernel::kernel_fault;
 pub use rows::{row, row_count};
 pub use sources::Source;
-pub use systems::{Shaped, read_shaped, read_system};
+pub use systems::{Shaped, read_shaped, read_system, shape_input};

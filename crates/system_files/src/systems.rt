@@ -195,8 +195,11 @@ fn read_input<F: Folder>(alloc: Global, folder: &mut F, project: &str) -> Result
     })
 }
 
-// The linear system that stands for the matrices.
-fn shape_input(alloc: Global, tool: Tool, input: &Input) -> Result<System, InputStop>
+/// The linear system that stands for the matrices.
+///
+/// # Errors
+/// `Bad` with the first fault of their shape, and `Memory` where memory ran out.
+pub fn shape_input(alloc: Global, tool: Tool, input: &Input) -> Result<System, InputStop>
     requires rows { input.now.mat.rows ≤ 64 }
     requires cols { input.now.mat.cols ≤ 64 }
     ensures fault { FindsBy (λ _. input.now) result (unless_fault (shape_fault tool input.now) input.now) }

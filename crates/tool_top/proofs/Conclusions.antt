@@ -1,5 +1,5 @@
 -- What the ends of a command say: an answer that comes early, a run that was stopped or cut, and a run that has written all.
-use Rattle.std.proofs.Common.{◌≡◌, ◌≢◌, ◌⊎◌, inl, inr, ℕ, List, [], ◌∷◌, Option, None, Some, Result, Ok, Err, IfSome, IsOkAnd, IsErrAnd, refl, ap, sym, subst}
+use Rattle.std.proofs.Common.{◌≡◌, ◌≢◌, ◌⊎◌, inl, inr, ℕ, List, [], ◌∷◌, Option, None, Some, Result, Ok, Err, IfSome, IsOkAnd, IsErrAnd, refl, ap, sym, subst, ◌∙◌}
 use Rattle.std.specs.Option.{option_map}
 use Rattle.outside.specs.Files.{Files}
 use Rattle.lift_core.specs.Systems.{ToolSystem}
@@ -8,7 +8,7 @@ use Rattle.lift_core.specs.declared.Tool.TheVariants.{Graver, Hilbert, Zsolve}
 use Rattle.lift_core.specs.Ends.{RunEnds}
 use Rattle.lift_run.specs.declared.ends.Place.TheVariants.{Row, Norm}
 use Rattle.lift_run.specs.declared.ends.RunEnd.{RunEnd}
-use Rattle.lift_run.specs.declared.ends.RunEnd.TheVariants.{Overflow as RunOverflow, Pairs as RunPairs, Rows as RunRows, Memory as RunMemory}
+use Rattle.lift_run.specs.declared.ends.RunEnd.TheVariants.{Overflow as RunOverflow, Pairs as RunPairs, Rows as RunRows, Failed as RunFailed, Memory as RunMemory}
 use Rattle.lift_run.specs.Runs.{end_of_error}
 use Rattle.system_shape.specs.Problem.{UserSystem}
 use Rattle.system_shape.specs.Shape.{user_system, tool_system}
@@ -21,7 +21,7 @@ use Rattle.system_files.specs.declared.faults.InputFault.TheVariants as input_fa
 use Rattle.system_files.specs.declared.faults.InputStop.{InputStop}
 use Rattle.system_files.specs.declared.faults.InputStop.TheVariants as stop
 use Rattle.system_files.specs.declared.systems.Shaped.{Shaped}
-use Rattle.system_files.specs.Inputs.{accepted_in, FindsBy}
+use Rattle.system_files.specs.Inputs.{FindsBy}
 use Rattle.tool_top.specs.declared.ends.Part.{Part}
 use Rattle.tool_top.specs.declared.ends.Part.TheVariants.{Mat, Gra, Hil, Zhom, Zinhom, Out}
 use Rattle.tool_top.specs.declared.ends.End.{End}
@@ -30,8 +30,8 @@ use Rattle.tool_top.specs.declared.ends.Totals.{Totals}
 use Rattle.tool_words.specs.declared.jobs.Job.{Job}
 use Rattle.tool_words.specs.declared.jobs.WordEnd.{WordEnd}
 use Rattle.tool_words.specs.declared.jobs.WordEnd.TheVariants.{Usage as NoForm, Memory as NoMemory}
-use Rattle.tool_top.specs.Plan.{Plan, project_of, part_of, answer_of, plan_of, plan_for}
-use Rattle.tool_top.specs.Outputs.{OutputFile, AreOutputs, AreOutputsOf, HasWritten, file_of, written_all, rows_in, norms_in}
+use Rattle.tool_top.specs.Plan.{Plan, input_in, project_of, part_of, answer_of, plan_of, plan_for}
+use Rattle.tool_top.specs.Outputs.{OutputFile, AreOutputs, AreOutputsOf, HasWritten, file_of, to_write, written_all, rows_in, norms_in}
 use Rattle.tool_top.specs.Expected.{limits_of, RunComesTo, FinishesWith, IsExpected, ComesTo, OnDone}
 use Rattle.tool_top.specs.Summary.{Tells}
 use Rattle.tool_top.specs.Left.{Traces, IsUntouched, IsCutAt, IsCutInFile, LeavesCut, Leaves}
@@ -87,21 +87,21 @@ source_leaves plan t source.Ub u = u
 
 -- reading the files of a job came to this
 module _ (tool : Tool) (job : Job) where
-  plan_fails : (files : Files) (fault : InputFault) → accepted_in tool (project_of job) files ≡ Err fault → plan_of tool job files ≡ Err (answer_of fault)
+  plan_fails : (files : Files) (fault : InputFault) → input_in tool job.tables (project_of job) files ≡ Err fault → plan_of tool job files ≡ Err (answer_of fault)
   plan_fails files fault found = rw found refl
 
-  plan_is : (files : Files) (input : Input) → accepted_in tool (project_of job) files ≡ Ok input
+  plan_is : (files : Files) (input : Input) → input_in tool job.tables (project_of job) files ≡ Ok input
       → plan_of tool job files ≡ Ok (record { job = job; tool = tool; input = input })
   plan_is files input found = rw found refl
 
-  stop_ends : (files : Files) (e : InputStop) → FindsBy (λ (s : Shaped). s.input) (Err e) (accepted_in tool (project_of job) files)
+  stop_ends : (files : Files) (e : InputStop) → FindsBy (λ (s : Shaped). s.input) (Err e) (input_in tool job.tables (project_of job) files)
       → (t : Traces) → IsUntouched t → Ends (plan_of tool job files) t (end_of_stop e)
   stop_ends files (stop.Bad fault) f t u = fault_ends (plan_of tool job files) fault (plan_fails files fault f) t u
   stop_ends files (stop.Failed at) f t u = record { comes = tt; leaves = source_leaves (plan_of tool job files) t at u }
   stop_ends files stop.Memory f t u = memory_ends (plan_of tool job files) t u
 
   pub ends-early : (held new : Option Files) (told : Option (List ℕ)) (e : InputStop) (r : Result Totals End) → new ≡ held
-      → IfSome held (λ files. FindsBy (λ (s : Shaped). s.input) (Err e) (accepted_in tool (project_of job) files))
+      → IfSome held (λ files. FindsBy (λ (s : Shaped). s.input) (Err e) (input_in tool job.tables (project_of job) files))
       → IsErrAnd r (λ y. y ≡ end_of_stop e) → IfSome held (λ files. Ends (plan_of tool job files) (traces files new told told) (end_of r))
   ends-early None new told e r same f err = tt
   ends-early (Some files) new told e r same f err =
@@ -110,7 +110,7 @@ module _ (tool : Tool) (job : Job) where
 
   -- a run that is carried out ends as its plan says
   pub ends-carried : (input : Input) (held mid new : Option Files) (told tells : Option (List ℕ)) (e : End) → mid ≡ held
-      → IfSome held (λ files. accepted_in tool (project_of job) files ≡ Ok input)
+      → IfSome held (λ files. input_in tool job.tables (project_of job) files ≡ Ok input)
       → EndsOver (Ok (record { job = job; tool = tool; input = input })) mid new told tells e
       → IfSome held (λ files. Ends (plan_of tool job files) (traces files new told tells) e)
   ends-carried input None mid new told tells e same found ends = tt
@@ -154,6 +154,7 @@ module _ (tool : Tool) (job : Job) (input : Input) where
   run_ends (RunOverflow k (Norm d)) s t u = record { comes = s; leaves = u }
   run_ends (RunPairs k d n) s t u = record { comes = s; leaves = u }
   run_ends (RunRows k d n) s t u = record { comes = s; leaves = u }
+  run_ends RunFailed s t u = memory_ends (Ok the_plan) t u
   run_ends RunMemory s t u = memory_ends (Ok the_plan) t u
 
   pub ends-run : (held : Option Files) (told : Option (List ℕ)) (e : RunEnd) (r : Result Totals End) (S : ToolSystem) → S ≡ tool_system tool input
@@ -184,31 +185,46 @@ module _ (tool : Tool) (job : Job) (input : Input) where
       let at : IsCutAt (project_of job) (file_of Zhom n w.0 ∷ file_of Zinhom n w.1 ∷ []) part old new = subst (λ fs. IsCutAt (project_of job) fs part old new) w.4 cut in
       elim at [ inl h ↦ subst P (sym h.0) zhom | inr h ↦ elim h [ inl k ↦ subst P (sym k.0) zinhom | inr k ↦ absurd k ] ]
 
+  -- with tables no file is written, and so none is cut
+  cut_written : (tables : Option ℕ) (outputs : List OutputFile) (part : Part) (old new : Option Files) → IsCutAt (project_of job) (to_write tables outputs) part old new → IsCutAt (project_of job) outputs part old new
+  cut_written None outputs part old new cut = cut
+  cut_written (Some k) outputs part old new cut = absurd cut
+
+  -- no output file is standard output
+  pub cut_is_not_out : (outputs : List OutputFile) → AreOutputs the_plan outputs → (r : Result Totals End) (e : End) (old new : Option Files)
+      → CutsTo (project_of job) (to_write job.tables outputs) old new e → IsErrAnd r (λ y. y ≡ e) → end_of r ≡ Outside Out → ⊥
+  cut_is_not_out outputs wanted (Ok totals) e old new cut err is = absurd err
+  cut_is_not_out outputs wanted (Err y) e old new cut err is =
+      let at : IsCutAt (project_of job) (to_write job.tables outputs) Out old new =
+      subst (CutsTo (project_of job) (to_write job.tables outputs) old new) (sym err ∙ is) cut in
+      cut_part tool (user_system tool input) input.mat.cols outputs Out old new wanted (cut_written job.tables outputs Out old new at)
+      (λ q. q ≡ Out → ⊥) (λ p. cc) (λ p. cc) (λ p. cc) (λ p. cc) refl
+
   module _ (outputs : List OutputFile) (used : ℕ) (wanted : AreOutputs the_plan outputs) (finishes : FinishesWith the_plan used) where
-    cut_leaves : (files : Files) (new : Option Files) (told : Option (List ℕ)) (part : Part) → IsCutAt (project_of job) outputs part (Some files) new
+    cut_leaves : (files : Files) (new : Option Files) (told : Option (List ℕ)) (part : Part) → IsCutAt (project_of job) (to_write job.tables outputs) part (Some files) new
         → LeavesCut (Ok the_plan) (traces files new told told) part
     cut_leaves files new told part cut =
         let P : Part → Type 0 = λ q. IsCutInFile the_plan (traces files new told told) q → LeavesCut (Ok the_plan) (traces files new told told) q in
-        let back : P part = cut_part tool (user_system tool input) input.mat.cols outputs part (Some files) new wanted cut P (λ h. h) (λ h. h) (λ h. h) (λ h. h) in
+        let back : P part = cut_part tool (user_system tool input) input.mat.cols outputs part (Some files) new wanted (cut_written job.tables outputs part (Some files) new cut) P (λ h. h) (λ h. h) (λ h. h) (λ h. h) in
         back (record { pairs = used; pairs_are = finishes; outputs = outputs; wanted = wanted; files = cut; out = refl })
 
-    cut_ends : (files : Files) (new : Option Files) (told : Option (List ℕ)) (e : End) → CutsTo (project_of job) outputs (Some files) new e
+    cut_ends : (files : Files) (new : Option Files) (told : Option (List ℕ)) (e : End) → CutsTo (project_of job) (to_write job.tables outputs) (Some files) new e
         → Ends (Ok the_plan) (traces files new told told) e
     cut_ends files new told (Outside part) h = record { comes = tt; leaves = cut_leaves files new told part h }
     cut_ends files new told Memory h = record { comes = tt; leaves = (h.0, cut_leaves files new told h.0 h.1) }
     cut_ends files new told e h = absurd h
 
-    cut_over : (held new : Option Files) (told : Option (List ℕ)) (e : End) → CutsTo (project_of job) outputs held new e → EndsOver (Ok the_plan) held new told told e
+    cut_over : (held new : Option Files) (told : Option (List ℕ)) (e : End) → CutsTo (project_of job) (to_write job.tables outputs) held new e → EndsOver (Ok the_plan) held new told told e
     cut_over None new told e h = tt
     cut_over (Some files) new told e h = cut_ends files new told e h
 
-    pub ends-cut : (held new : Option Files) (told : Option (List ℕ)) (e : End) (r : Result Totals End) → CutsTo (project_of job) outputs held new e
+    pub ends-cut : (held new : Option Files) (told : Option (List ℕ)) (e : End) (r : Result Totals End) → CutsTo (project_of job) (to_write job.tables outputs) held new e
         → IsErrAnd r (λ y. y ≡ e) → EndsOver (Ok the_plan) held new told told (end_of r)
     ends-cut held new told e r h err =
         at_error (EndsOver (Ok the_plan) held new told told) r e err (cut_over held new told e h)
 
     -- ---- all is written, and the summary was put or cut
-    told_ends : (files : Files) (new : Option Files) (told tells : Option (List ℕ)) (r : Result Totals End) → new ≡ Some (written_all (project_of job) outputs files)
+    told_ends : (files : Files) (new : Option Files) (told tells : Option (List ℕ)) (r : Result Totals End) → new ≡ Some (written_all (project_of job) (to_write job.tables outputs) files)
         → TellsOf job outputs used told tells r → Ends (Ok the_plan) (traces files new told tells) (end_of r)
     told_ends files new told tells (Ok totals) whole h = record {
       comes = record {
@@ -231,12 +247,12 @@ module _ (tool : Tool) (job : Job) (input : Input) where
     }
     told_ends files new told tells (Err e) whole h = absurd h
 
-    told_over : (held new : Option Files) (told tells : Option (List ℕ)) (r : Result Totals End) → new ≡ option_map (written_all (project_of job) outputs) held
+    told_over : (held new : Option Files) (told tells : Option (List ℕ)) (r : Result Totals End) → new ≡ option_map (written_all (project_of job) (to_write job.tables outputs)) held
         → TellsOf job outputs used told tells r → EndsOver (Ok the_plan) held new told tells (end_of r)
     told_over None new told tells r whole h = tt
     told_over (Some files) new told tells r whole h = told_ends files new told tells r whole h
 
-    pub ends-told : (held new : Option Files) (told tells : Option (List ℕ)) (r : Result Totals End) → new ≡ option_map (written_all (project_of job) outputs) held
+    pub ends-told : (held new : Option Files) (told tells : Option (List ℕ)) (r : Result Totals End) → new ≡ option_map (written_all (project_of job) (to_write job.tables outputs)) held
         → TellsOf job outputs used told tells r → EndsOver (Ok the_plan) held new told tells (end_of r)
     ends-told held new told tells r whole h = told_over held new told tells r whole h
 
@@ -297,3 +313,8 @@ module _ (held new : Option Files) (plan : Files → Result Plan End) (told tell
         | None ↦ λ ends folder out. tt
         | Some files ↦ λ ends folder out a b. expected (plan files) e ends.comes (no_fault A B e folder out a b)
       ]
+
+-- writing no file
+pub unwritten : (project : List ℕ) (held : Option Files) → held ≡ option_map (written_all project []) held
+unwritten project None = refl
+unwritten project (Some files) = refl

@@ -11,7 +11,7 @@ use Rattle.tool_top.specs.declared.ends.End.{End}
 use Rattle.tool_top.specs.declared.ends.End.TheVariants.{Done, Outside, Memory}
 use Rattle.tool_top.specs.Names.{file_name}
 use Rattle.tool_top.specs.Plan.{Plan, project_of}
-use Rattle.tool_top.specs.Outputs.{OutputFile, AreOutputs, HasWritten, written_all, rows_in, norms_in}
+use Rattle.tool_top.specs.Outputs.{OutputFile, AreOutputs, HasWritten, to_write, written_all, rows_in, norms_in}
 use Rattle.tool_top.specs.Expected.{FinishesWith}
 use Rattle.tool_top.specs.Summary.{summary_of}
 
@@ -45,7 +45,7 @@ pub record IsCutInFile (plan : Plan) (t : Traces) (part : Part) : Type 0 where
   pub pairs_are : FinishesWith plan pairs
   pub outputs : List OutputFile
   pub wanted : AreOutputs plan outputs
-  pub files : IsCutAt (project_of plan.job) outputs part (Some t.files_before) t.files_after
+  pub files : IsCutAt (project_of plan.job) (to_write plan.job.tables outputs) part (Some t.files_before) t.files_after
   pub out : t.out_after ≡ t.out_before
 
 -- the run was finished, all output files are whole, and putting its summary was refused
@@ -54,7 +54,7 @@ pub record IsCutInSummary (plan : Plan) (t : Traces) : Type 0 where
   pub pairs_are : FinishesWith plan pairs
   pub outputs : List OutputFile
   pub wanted : AreOutputs plan outputs
-  pub files : t.files_after ≡ Some (written_all (project_of plan.job) outputs t.files_before)
+  pub files : t.files_after ≡ Some (written_all (project_of plan.job) (to_write plan.job.tables outputs) t.files_before)
   pub out : MayPut (summary_of plan.job (rows_in outputs) pairs (norms_in outputs)) t.out_before t.out_after
 
 -- what a fault of this part leaves: of an output file, a prefix of its text may stand there; of standard output, a prefix of the summary; of an input file, nothing has changed

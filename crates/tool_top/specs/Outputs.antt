@@ -1,5 +1,5 @@
 -- The files that a command writes.
-use Rattle.std.specs.Prelude.{◌≡◌, ℕ, ℤ, List, ◌∷◌, [], length, Option, Some}
+use Rattle.std.specs.Prelude.{◌≡◌, ℕ, ℤ, List, ◌∷◌, [], length, Option, None, Some}
 use Rattle.std.specs.List.{sum_by}
 use Rattle.outside.specs.Files.{Files}
 use Rattle.int_vector.specs.Vectors.{norm}
@@ -45,11 +45,16 @@ written_all project [] files = files
 written_all project (f ∷ fs) files =
     written_all project fs (written (file_name project f.part) f.text files)
 
+-- the files that are written: none with tables, whose rows are only counted
+abbrev pub to_write : Option ℕ → List OutputFile → List OutputFile
+to_write None outputs = outputs
+to_write (Some k) outputs = []
+
 -- the output files hold exactly the texts of the wanted lists, and all other files are as before
 abbrev pub HasWritten : Plan → Files → Option Files → Type 0
 HasWritten p before after =
     (outputs : List OutputFile) × AreOutputs p outputs
-    × (after ≡ Some (written_all (project_of p.job) outputs before))
+    × (after ≡ Some (written_all (project_of p.job) (to_write p.job.tables outputs) before))
 
 -- the numbers of the summary: all rows, and the sum of their norms
 abbrev pub rows_in : List OutputFile → ℕ

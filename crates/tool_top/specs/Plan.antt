@@ -1,10 +1,11 @@
 -- What a command is to do: the first answer that fits, or the plan of its run.
-use Rattle.std.specs.Prelude.{ℕ, ◌&&◌, not, is_none, Bool, if◌then◌else◌, List, [], Option, None, Some, Result, Ok, Err, unwrap_or}
+use Rattle.std.specs.Prelude.{ℕ, ◌&&◌, not, is_none, IsSome, Bool, if◌then◌else◌, List, [], Option, None, Some, Result, Ok, Err, unwrap_or}
 use Rattle.outside.specs.Files.{Files}
 use Rattle.lift_core.specs.Systems.{ToolSystem}
 use Rattle.lift_core.specs.declared.Tool.{Tool}
 use Rattle.system_shape.specs.Problem.{UserSystem}
-use Rattle.system_shape.specs.Shape.{user_system, tool_system}
+use Rattle.system_shape.specs.Shape.{user_system, tool_system, shape_fault}
+use Rattle.system_shape.specs.Tables.{tables_input}
 use Rattle.system_shape.specs.declared.files.Input.{Input}
 use Rattle.system_files.specs.declared.sources.Source.{Source}
 use Rattle.system_files.specs.declared.sources.Source.TheVariants as source
@@ -12,7 +13,7 @@ use Rattle.system_files.specs.declared.faults.FileFault.TheVariants as file_faul
 use Rattle.system_files.specs.declared.faults.InputFault.{InputFault}
 use Rattle.system_files.specs.declared.faults.InputFault.TheVariants as input_fault
 use Rattle.system_files.specs.Files.{◌>>=◌}
-use Rattle.system_files.specs.Inputs.{accepted_in}
+use Rattle.system_files.specs.Inputs.{unless_fault, accepted_in}
 use Rattle.tool_words.specs.Jobs.{job_of}
 use Rattle.tool_words.specs.declared.jobs.Job.{Job}
 use Rattle.tool_top.specs.declared.ends.Part.{Part}
@@ -37,14 +38,19 @@ system_of_plan p = tool_system p.tool p.input
 abbrev pub project_of : Job → List ℕ
 project_of job = unwrap_or job.project []
 
+-- the words ask for tables
+abbrev pub HasTables : Option Job → Type 0
+HasTables None = ⊥
+HasTables (Some job) = IsSome job.tables
+
 -- the project of the words, empty where they name none
 abbrev pub named_project : Option Job → List ℕ
 named_project None = []
 named_project (Some job) = project_of job
 
--- restart files and tables are not built yet
+-- restart files are not built yet
 abbrev pub is_built : Job → Bool
-is_built job = is_none job.tables && (is_none job.backup && not job.resume)
+is_built job = is_none job.backup && not job.resume
 
 abbrev pub built_only : Option Job → Option Job
 built_only None = None
@@ -77,10 +83,15 @@ abbrev pub answered : {A : Type 0} → Result A InputFault → Result A End
 answered (Ok x) = Ok x
 answered (Err fault) = Err (answer_of fault)
 
+-- the matrix of the tables, without a look at any file; or what the project's files say
+abbrev pub input_in : Tool → Option ℕ → List ℕ → Files → Result Input InputFault
+input_in tool (Some k) project files = unless_fault (shape_fault tool (tables_input k)) (tables_input k)
+input_in tool None project files = accepted_in tool project files
+
 -- what the files answer to a job, or its plan
 abbrev pub plan_of : Tool → Job → Files → Result Plan End
 plan_of tool job files = do
-  input ← answered (accepted_in tool (project_of job) files)
+  input ← answered (input_in tool job.tables (project_of job) files)
   Ok (record { job = job; tool = tool; input = input })
 
 abbrev pub plan_for : Tool → Option Job → Files → Result Plan End

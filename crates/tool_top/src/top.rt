@@ -1,18 +1,22 @@
 //! The top call.
 
-ghost use Rattle.std.specs.Prelude.{◌≡◌, ◌≢◌, ◌⊎◌, ◌≤◌, Option, None, Some, IfSome, Ok, IfOk, IsOkAnd, vec_len};
+ghost use Rattle.std.specs.Prelude.{◌≡◌, ◌≢◌, ◌⊎◌, ◌≤◌, Option, None, Some, IfSome, Ok, IsSome, IfOk, IfErr, Err, OnOk, IsOkAnd, vec_len};
 ghost use Rattle.outside.specs.Causes.{Rose};
-ghost use Rattle.system_files.specs.Inputs.{IsShaped};
+ghost use Rattle.system_files.specs.Inputs.{IsShaped, FindsBy, HasStopCause, unless_fault};
+ghost use Rattle.system_files.specs.declared.sources.Source.{Source};
+ghost use Rattle.system_shape.specs.Shape.{shape_fault};
+ghost use Rattle.system_shape.specs.Tables.{tables_input};
+ghost use Rattle.std.specs.Option.{option_map};
 ghost use Rattle.tool_words.specs.Jobs.{IsWithinLimits};
 ghost use Rattle.tool_words.specs.declared.jobs.Job.{Job};
-ghost use Rattle.tool_top.specs.Plan.{planned, plan_of, plan_for, job_in, named_project, project_of, is_built};
-ghost use Rattle.tool_top.specs.Outputs.{HasWritten};
+ghost use Rattle.tool_top.specs.Plan.{planned, plan_of, plan_for, HasTables, input_in, job_in, named_project, project_of, is_built};
+ghost use Rattle.tool_top.specs.Outputs.{HasWritten, to_write, written_all};
 ghost use Rattle.tool_top.specs.Expected.{ComesTo, IsExpected, OnDone};
 ghost use Rattle.tool_top.specs.Messages.{Speaks};
 ghost use Rattle.tool_top.specs.Summary.{Tells, code_of};
 ghost use Rattle.tool_top.specs.Left.{Leaves};
 ghost use Rattle.tool_top.specs.Inside.Ends.{Ends, Asks, end_of, HasSinkCause};
-ghost use Rattle.tool_top.specs.Inside.Writing.{outputs_of, TellsOf};
+ghost use Rattle.tool_top.specs.Inside.Writing.{outputs_of, CutsTo, TellsOf};
 
 use crate::ends::{Totals, code, is_done, refused_at, settle};
 use crate::messages::put_message;
@@ -23,7 +27,8 @@ use lift_core::Tool;
 use lift_run::{Limits, NoKeep, run_system};
 use outside::{Folder, Sink, Words};
 use std::alloc::Global;
-use system_files::{Shaped, read_shaped};
+use system_files::{InputStop, Shaped, read_shaped, shape_input};
+use system_shape::tables;
 use tool_words::{Job, WordEnd, read_words};
 
 // The project's name, empty where there is none.
@@ -36,11 +41,11 @@ fn project_of(job: &Job) -> &str
     }
 }
 
-// Whether all that the job asks for is built: restart files and tables are not yet.
+// Whether all that the job asks for is built: restart files are not yet.
 fn is_built(job: &Job) -> bool
     ensures { result ≡ is_built job.now }
 {
-    job.tables.is_none() && job.backup.is_none() && !job.resume
+    job.backup.is_none() && !job.resume
 }
 
 // The job of the words.
@@ -89,6 +94,7 @@ fn carry_out<F: Folder, O: Sink>(
         Ends (Ok (record { job = job.now; tool = tool; input = shaped.input }))
         (record { files_before = files; files_after = F.held folder.new; out_before = O.held out.old; out_after = O.held out.new })
         (end_of result)) }
+    ensures apart { IsSome job.now.tables → folder.new ≡ folder.old }
     ensures tells { Tells (Some job.now) (O.held out.old) (O.held out.new) (end_of result) }
     ensures words { end_of result ≢ End.Usage }
     ensures folder_fault { (p : Part) → end_of result ≡ End.Outside p → p ≢ Part.Out
@@ -101,8 +107,62 @@ fn carry_out<F: Folder, O: Sink>(
     };
     let finish = run_system(alloc, shaped.system, limits, &mut NoKeep)?;
     let outputs = select_outputs(alloc, &finish)?;
-    write_outputs(alloc, folder, project_of(job), &outputs)?;
+    write_job(alloc, job, folder, &outputs)?;
     tell(out, job, &outputs, finish.pairs)
+}
+
+// The system of the tables, without a look at any file.
+fn shape_tables(alloc: Global, tool: Tool, k: u32) -> Result<Shaped, InputStop>
+    requires { (2 ≤ k) × (k ≤ 20) }
+    ensures input { FindsBy (λ s. s.input) result (unless_fault (shape_fault tool (tables_input k)) (tables_input k)) }
+    ensures shaped { IfOk result (λ s. IsShaped tool s.input s.system) }
+    ensures calm { (source : Source) → result ≡ Err (InputStop.Failed source) → ⊥ }
+{
+    let input = tables(alloc, k)?;
+    let system = shape_input(alloc, tool, &input)?;
+    Ok(Shaped { input, system })
+}
+
+// The system of a job: that of the tables, or that of the project's files.
+fn read_job<F: Folder>(
+    alloc: Global,
+    tool: Tool,
+    job: &Job,
+    folder: &mut F,
+) -> Result<Shaped, InputStop>
+    requires { IsWithinLimits job.now }
+    ensures same { F.held folder.new ≡ F.held folder.old }
+    ensures apart { IsSome job.now.tables → folder.new ≡ folder.old }
+    ensures input { IfSome (F.held folder.old) (λ files. FindsBy (λ s. s.input) result
+        (input_in tool job.now.tables (project_of job.now) files)) }
+    ensures shaped { IfOk result (λ s. IsShaped tool s.input s.system) }
+    ensures cause { HasStopCause (F.faults folder.old) (F.faults folder.new) result }
+{
+    match job.tables {
+        Some(k) => shape_tables(alloc, tool, k),
+        None => read_shaped(alloc, tool, folder, project_of(job)),
+    }
+}
+
+// Writes the outputs of a job: none with tables.
+fn write_job<F: Folder>(
+    alloc: Global,
+    job: &Job,
+    folder: &mut F,
+    outputs: &Outputs,
+) -> Result<(), End>
+    ensures apart { IsSome job.now.tables → folder.new ≡ folder.old }
+    ensures done { OnOk result (F.held folder.new
+        ≡ option_map (written_all (project_of job.now) (to_write job.now.tables (outputs_of outputs.now))) (F.held folder.old)) }
+    ensures refused { IfErr result (CutsTo (project_of job.now) (to_write job.now.tables (outputs_of outputs.now))
+        (F.held folder.old) (F.held folder.new)) }
+    ensures later { F.faults folder.old ≤ F.faults folder.new }
+    ensures cause { (p : Part) → result ≡ Err (End.Outside p) → Rose (F.faults folder.old) (F.faults folder.new) }
+{
+    match job.tables {
+        Some(_) => Ok(()),
+        None => write_outputs(alloc, folder, project_of(job), outputs),
+    }
 }
 
 // All steps behind the words, to the numbers of the run or the end that comes before them.
@@ -117,13 +177,14 @@ fn attempt<F: Folder, O: Sink>(
     ensures ends { IfSome (F.held folder.old) (λ files. Ends (plan_of tool job.now files)
         (record { files_before = files; files_after = F.held folder.new; out_before = O.held out.old; out_after = O.held out.new })
         (end_of result)) }
+    ensures apart { IsSome job.now.tables → folder.new ≡ folder.old }
     ensures tells { Tells (Some job.now) (O.held out.old) (O.held out.new) (end_of result) }
     ensures words { end_of result ≢ End.Usage }
     ensures folder_fault { (p : Part) → end_of result ≡ End.Outside p → p ≢ Part.Out
         → Rose (F.faults folder.old) (F.faults folder.new) }
     ensures out_fault { end_of result ≡ End.Outside Part.Out → Rose (O.faults out.old) (O.faults out.new) }
 {
-    let shaped = read_shaped(alloc, tool, folder, project_of(job))?;
+    let shaped = read_job(alloc, tool, job, folder)?;
     carry_out(alloc, tool, job, shaped, folder, out)
 }
 
@@ -151,6 +212,7 @@ fn finish<F: Folder, O: Sink, E: Sink>(
         → IfSome (F.held folder.old) (λ files. Ends (plan_for tool asked files)
         (record { files_before = files; files_after = F.held folder.new; out_before = O.held out.old; out_after = O.held out.new })
         result) }
+    ensures apart { (asked : Option Job) → Asks asked job → HasTables asked → folder.new ≡ folder.old }
     ensures tells { (asked : Option Job) → Asks asked job
         → Tells asked (O.held out.old) (O.held out.new) result }
     ensures message { (asked : Option Job) → Asks asked job
@@ -182,14 +244,18 @@ fn finish<F: Folder, O: Sink, E: Sink>(
 /// without the program's name; `--pairs` and `--rows` bound the run.
 /// At each end but Done its line is put on `err`, by [`put_message`]; a refusal there changes no status.
 ///
+/// With `--tables=K` (`graver` alone) the system is that of the tables with three rows and K columns whose sums are 0: no
+/// call of the folder is made, the rows of its Graver basis are counted, and `out` gains a second line with the sum of
+/// their norms.
+///
 /// For a project P the files are those of the 4ti2 user manual: `P.mat`, and `P.sign`, `P.rel`, `P.rhs` where they are
 /// there; `P.cap` bounds the absolute values of the columns. `graver` writes the Graver basis (Graver 1975) to `P.gra`,
 /// of a vector and its negative the one whose first nonzero entry is positive; `hilbert` writes the Hilbert basis to
 /// `P.hil`; `zsolve` writes the minimal homogeneous solutions to `P.zhom` and the minimal inhomogeneous ones to
 /// `P.zinhom`. The rows are in lexicographic order.
 ///
-/// The end is the first that fits: [`End::Usage`] where the words are not of the form (restart files and tables are not
-/// built yet, and their options are such words); for `.mat`, `.sign`, `.rel`, `.rhs`, `.cap` in turn [`End::Missing`]
+/// The end is the first that fits: [`End::Usage`] where the words are not of the form (restart files are not built
+/// yet, and their options are such words); for `.mat`, `.sign`, `.rel`, `.rhs`, `.cap` in turn [`End::Missing`]
 /// (`.mat` alone), [`End::TooLong`], [`End::Text`]; [`End::Refused`] where `.lat`, `.lb` or `.ub` is there;
 /// [`End::Shape`]; [`End::Overflow`], [`End::Pairs`] or [`End::Rows`] as the run comes to it; else [`End::Done`].
 /// [`End::Outside`] may come in place of each but `Usage`, and [`End::Memory`] in place of each.
@@ -218,6 +284,9 @@ pub fn run_tool<F: Folder, O: Sink, E: Sink>(
     ensures leaves { IfSome (F.held folder.old) (λ files. Leaves (planned tool words.now files)
         (record { files_before = files; files_after = F.held folder.new; out_before = O.held out.old; out_after = O.held out.new })
         result.end) }
+
+    // With tables, no call of the folder is made.
+    ensures apart { HasTables (job_in tool words.now) → folder.new ≡ folder.old }
 
     // What standard output has gained, whether or not the folder tells its files.
     ensures tells { Tells (job_in tool words.now) (O.held out.old) (O.held out.new) result.end }

@@ -33,3 +33,6 @@ returns-clause-words g c = c.finish-end.ensures.words (job_in c.args.tool c.args
 
 pub returns-clause-message : goal.returns-clause-message
 returns-clause-message g c = c.finish-end.ensures.message (job_in c.args.tool c.args.words.now) c.job_in-job.ensures.asks
+
+pub returns-clause-apart : goal.returns-clause-apart
+returns-clause-apart g c = c.finish-end.ensures.apart (job_in c.args.tool c.args.words.now) c.job_in-job.ensures.asks
