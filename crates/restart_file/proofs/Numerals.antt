@@ -19,7 +19,7 @@ use lib.Pointwise.{pointwise}
 use Rattle.outside.proofs.FileMaps.{own_name}
 use Rattle.int_vector.specs.Range.{InRange}
 use Rattle.mat_files.specs.Words.{is_blank}
-use Rattle.mat_files.specs.Printed.{line_of, joined_cells}
+use Rattle.mat_files.specs.Texts.{line_of, joined_cells}
 use Rattle.mat_files.proofs.PrintedNumbers.{word-signed_decimal}
 use Rattle.restart_file.specs.Inside.Words.{ends_word, IsGuessed}
 

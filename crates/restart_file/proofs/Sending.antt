@@ -12,7 +12,7 @@ use Rattle.hex.specs.Hex.{encode_lower}
 use Rattle.outside.specs.Files.{Files, begun, appended, MayAppend, written, MayWrite}
 use Rattle.outside.specs.Inside.Writing.{IsPartWritten}
 use Rattle.outside.proofs.Writing.{appended-held, part_more, part_whole, part_stands, part_refused}
-use Rattle.mat_files.specs.Printed.{line_of}
+use Rattle.mat_files.specs.Texts.{line_of}
 use Rattle.restart_file.specs.Texts.{digest_line, sealed}
 use Rattle.restart_file.specs.Inside.Sending.{IsSent}
 

@@ -4,7 +4,7 @@ use Rattle.std.specs.List.{count_by, concat}
 use Rattle.std.specs.Ordering.{int_eq}
 use Rattle.sha2.specs.Sha256.{sha256}
 use Rattle.hex.specs.Hex.{encode_lower}
-use Rattle.mat_files.specs.Printed.{line_of}
+use Rattle.mat_files.specs.Texts.{line_of}
 use Rattle.lift_core.specs.declared.Tool.{Tool}
 use Rattle.lift_core.specs.declared.Tool.TheVariants.{Graver, Hilbert, Zsolve}
 use Rattle.lift_core.specs.Systems.{ToolSystem}

@@ -2,7 +2,7 @@
 
 ghost use Rattle.std.specs.Prelude.{◌≡◌, ◌++◌, ◌∷◌, ◌+◌, ◌<◌, ◌≤◌, [], length, slice_index_or, map, codes, decimal, OnOk};
 ghost use Rattle.hex.specs.Hex.{encode_lower};
-ghost use Rattle.mat_files.specs.Printed.{line_of};
+ghost use Rattle.mat_files.specs.Texts.{line_of};
 ghost use Rattle.restart_file.specs.Texts.{spaced, counts_line, version_line, tool_line, shape_line, signs_line, cap_text, caps_line, row_line, system_lines};
 
 use hex::encode_to_slice;

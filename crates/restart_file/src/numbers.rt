@@ -4,7 +4,7 @@ ghost use Rattle.std.specs.Prelude.{◌≡◌, ◌++◌, ◌∷◌, ◌<◌, ◌
 ghost use Rattle.std.specs.Fmt.{signed_decimal};
 ghost use Rattle.std.specs.List.{AllByRecursion, All};
 ghost use Rattle.int_vector.specs.Range.{InRange};
-ghost use Rattle.mat_files.specs.Printed.{line_of};
+ghost use Rattle.mat_files.specs.Texts.{line_of};
 ghost use Rattle.restart_file.specs.Inside.Words.{ends_word};
 
 use crate::lines::push_cells;

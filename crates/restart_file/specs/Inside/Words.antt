@@ -1,6 +1,6 @@
 -- The words of a line.
 use Rattle.std.specs.Prelude.{◌≡◌, ◌<◌, ℕ, ℤ, List, Bool, length, take, drop, ◌==◌, ◌||◌}
-use Rattle.mat_files.specs.Printed.{line_of}
+use Rattle.mat_files.specs.Texts.{line_of}
 
 -- a space or LF
 abbrev pub ends_word : ℕ → Bool

@@ -1,5 +1,5 @@
 use Rattle.std.proofs.Common.{ap, sym, ◌∙◌, ◌≡◌, ◌++◌, drop, length}
-use Rattle.mat_files.specs.Printed.{line_of}
+use Rattle.mat_files.specs.Texts.{line_of}
 use Rattle.restart_file.proofs.Numerals.{drop_length, found_equal}
 use Rattle.restart_file.proofs.numbers.cells_in.Goals as goal
 

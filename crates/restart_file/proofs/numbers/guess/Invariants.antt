@@ -2,7 +2,7 @@ use Rattle.std.proofs.Common.{◌≡◌, ℕ, ◌<◌, ◌≤◌, length, take, 
 use Rattle.std.specs.Prelude.{ℤ}
 use Rattle.std.specs.List.{AllByRecursion, AllWithin}
 use Rattle.int_vector.specs.Range.{InRange}
-use Rattle.mat_files.specs.Printed.{line_of}
+use Rattle.mat_files.specs.Texts.{line_of}
 use Rattle.restart_file.specs.Inside.Words.{IsGuessed}
 use Rattle.restart_file.proofs.numbers.guess.Given as goal
 
