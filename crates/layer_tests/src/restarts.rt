@@ -32,7 +32,8 @@ fn system(alloc: Global) -> Result<System, AllocError> {
     let half = 4_611_686_018_427_387_904;
     let rows = Vec::from_slice(alloc, &[1, -1, 0, half, half - 1, -i64::MAX])?;
     let signs = Vec::from_slice(alloc, &[1, 1, 1])?;
-    Ok(System::build(Tool::Hilbert, 3, 3, rows, signs))
+    let caps = Vec::from_slice(alloc, &[None; 3])?;
+    Ok(System::build(Tool::Hilbert, 3, 3, rows, signs, caps))
 }
 
 // Whether the run finishes that tells the Keep of its norms.

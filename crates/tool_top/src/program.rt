@@ -1,18 +1,16 @@
 //! What the programs share: the machine's words, folder and streams, handed to the top call.
 
-use crate::run_tool;
+ghost use Rattle.tool_top.specs.Messages.{IsDone};
+
+use crate::ends::code;
+use crate::{End, put_message, run_tool};
 use lift_core::Tool;
-use outside::{DirFolder, StdSink, Words};
+use outside::{DirFolder, Sink, StdSink, Words};
 use std::alloc::{AllocError, Global};
 use std::fs::File;
 use std::io::ErrorKind;
 use std::process::ExitCode;
 use std::{env, io};
-
-// The exit statuses that come before the top call.
-const WRONG_WORDS: u8 = 1;
-
-const NO_MEMORY: u8 = 6;
 
 // A file that is always there, and empty.
 const NOTHING: &str = "/dev/null";
@@ -36,22 +34,33 @@ fn hold_closed_streams(rt: &HostRuntime) -> [io::Result<File>; 3] {
     ]
 }
 
+// Puts the line of an end that comes before the top call, and gives its exit status.
+fn refuse<E: Sink>(tool: Tool, end: &End, err: &mut E) -> ExitCode
+    requires { IsDone end.now → ⊥ }
+{
+    // A failure of standard error changes no status.
+    let _ = put_message(tool, "", end, err);
+    ExitCode::from(code(end))
+}
+
 /// Runs a command as a program: on the words that the machine gives, in the current folder, with the standard streams.
 /// Gives the exit status of [`run_tool`]; a word that is no UTF-8 text ends with 1, and where memory runs out for the words,
 /// it is 6.
 pub fn run_program(rt: &HostRuntime, tool: Tool) -> ExitCode {
     let _held = hold_closed_streams(rt);
+    let mut err = StdSink::err(rt);
     let args = match env::args(rt) {
         Ok(args) => args,
-        Err(error) if error.kind() == ErrorKind::OutOfMemory => return ExitCode::from(NO_MEMORY),
-        Err(_) => return ExitCode::from(WRONG_WORDS),
+        Err(error) if error.kind() == ErrorKind::OutOfMemory => {
+            return refuse(tool, &End::Memory, &mut err);
+        }
+        Err(_) => return refuse(tool, &End::Usage, &mut err),
     };
     let Ok(words) = words_of(rt.alloc(), args) else {
-        return ExitCode::from(NO_MEMORY);
+        return refuse(tool, &End::Memory, &mut err);
     };
     let mut folder = DirFolder::new(rt);
     let mut out = StdSink::out(rt);
-    let mut err = StdSink::err(rt);
     let status = run_tool(rt.alloc(), tool, &words, &mut folder, &mut out, &mut err);
     ExitCode::from(status.code)
 }
