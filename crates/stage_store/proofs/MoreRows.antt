@@ -1,6 +1,6 @@
 -- What was known of the listed rows stays true as more rows are listed.
 use Rattle.std.proofs.Common.{◌≡◌, ℕ, zero, suc, ◌+◌, ◌*◌, ◌≤◌, ◌<◌, List, [], ◌∷◌, ◌++◌, length, get_or, take, drop, refl, ap, ap₂, sym, ◌∙◌, subst, arith, inl, inr, ◌⊎◌, Bool, true, false, length-append}
-use Rattle.std.specs.Prelude.{ℤ, map}
+use Rattle.std.specs.Prelude.{ℤ, IsTrue}
 use Rattle.std.specs.List.{AllByRecursion, Contains}
 use Rattle.std.proofs.lemmas.Bool.{cases_Bool}
 use Rattle.std.proofs.lemmas.List.{take-append-le, get_or_append_left, length-take-le}
@@ -107,3 +107,7 @@ sieve_after S listed new d e v up h = record {
   reaches_are = λ k l. subst (λ (row : List ℤ). IsReachOr (listed ++ new) row (get_or v.reaches.items k 0)) (sym (row_stays listed new k (omega (arith, l, h.reach_count, h.within)))) (reach_stays listed new (row_at listed k) (get_or v.reaches.items k 0) (h.reaches_are k l));
   sifted = sifted_stays_on S listed new d e v.rows v.shelves.items up h.within h.sifted;
 }
+
+-- a flag that is not set
+pub unknown : (b : Bool) → b ≡ false → IsTrue b → ⊥
+unknown b e t = let f : true ≡ false = sym t ∙ e in cc

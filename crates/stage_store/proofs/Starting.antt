@@ -82,10 +82,10 @@ module _ (S : ToolSystem) (k : ℕ) (solutions : List (List ℤ)) (solve : AllBy
     waiting_length = omega (arith, length-map solutions (extend (row S.equations k)), count);
   }
 
-pub start_holds : (S : ToolSystem) (k used : ℕ) (solutions : List (List ℤ)) (listed : PoolValue) (tree : TreeValue) (waiting : PoolValue) (plus minus : List ClassValue) (sieve : Sieve) (ahead : Option Opened)
+pub start_holds : (S : ToolSystem) (k used : ℕ) (solutions : List (List ℤ)) (listed : PoolValue) (tree : TreeValue) (waiting : PoolValue) (plus minus : List ClassValue) (sieve : Sieve) (ahead : Opened)
     → AllByRecursion (Solves S.equations (k - 1)) solutions → AllByRecursion (λ v. 0 < norm v) solutions → AllByRecursion (λ v. norm v ≤ largest) solutions
     → IsToolSystem S → 0 < k → k ≤ length S.equations.rows → used ≤ 2 ^ 62 + k * 2 ^ 42 → IsStrictlySortedBy solution_cmp solutions → length solutions ≤ 2 ^ 21
-    → listed.width ≡ width S.equations + 1 → listed.rows ≡ [] → tree.width ≡ width S.equations + 1 → tree.filed ≡ [] → AreExtended S k solutions waiting → plus ≡ [] → minus ≡ [] → IsNewSieve sieve → ahead ≡ None
+    → listed.width ≡ width S.equations + 1 → listed.rows ≡ [] → tree.width ≡ width S.equations + 1 → tree.filed ≡ [] → AreExtended S k solutions waiting → plus ≡ [] → minus ≡ [] → IsNewSieve sieve → ahead.known ≡ false
     → Holds (value_of S k 0 used listed.rows waiting.rows) listed tree waiting 0 used plus minus sieve ahead
 start_holds S k used solutions listed tree waiting plus minus sieve ahead solve positive small kept from to most order count w nothing tw none e p m v a =
     let is : value_of S k 0 used [] (map (extend (row S.equations k)) solutions) ≡ value_of S k 0 used listed.rows waiting.rows = ap₂ (λ (l r : List (List ℤ)). value_of S k 0 used l r) (sym nothing) (sym e.rows_are) in
@@ -102,7 +102,7 @@ start_holds S k used solutions listed tree waiting plus minus sieve ahead solve 
       plus_ids = subst AscendWithin (sym p) tt;
       minus_ids = subst AscendWithin (sym m) tt;
       sieve_is = new_sieve S.equations listed.rows 0 sieve v;
-      ahead_is = subst (λ (o : Option Opened). IsAhead (value_of S k 0 used listed.rows waiting.rows) o) (sym a) tt;
+      ahead_is = λ t. absurd (unknown ahead.known a t);
     }
 
 -- ---- the defined lists

@@ -1,5 +1,5 @@
 -- What the fields of a stage keep.
-use Rattle.std.specs.Prelude.{◌≡◌, ℕ, ◌+◌, ◌≤◌, ◌^◌, List, ℤ, Option, length}
+use Rattle.std.specs.Prelude.{◌≡◌, ℕ, ◌+◌, ◌≤◌, ◌^◌, List, ℤ, length}
 use Rattle.lift_core.specs.ToolSystems.{width}
 use Rattle.lift_core.specs.Stages.{has_positive_last, has_negative_last}
 use Rattle.row_pool.specs.Rows.{PoolValue}
@@ -13,7 +13,7 @@ use Rattle.stage_store.specs.declared.sieve.Sieve.{Sieve}
 use Rattle.stage_store.specs.declared.opened.Opened.{Opened}
 
 -- the rows that wait are those from the place `waited` on
-pub record Holds (s : StageValue) (listed : PoolValue) (tree : TreeValue) (waiting : PoolValue) (waited used : ℕ) (plus minus : List ClassValue) (sieve : Sieve) (ahead : Option Opened) : Type 0 where
+pub record Holds (s : StageValue) (listed : PoolValue) (tree : TreeValue) (waiting : PoolValue) (waited used : ℕ) (plus minus : List ClassValue) (sieve : Sieve) (ahead : Opened) : Type 0 where
   pub stage : IsStage s
   pub listed_width : listed.width ≡ width s.system.equations + 1
   pub indexed : HoldsRows tree listed

@@ -1,5 +1,5 @@
 -- The pairs of a norm that may have an irreducible sum, by their numbers.
-use Rattle.std.specs.Prelude.{◌≡◌, ℕ, ◌+◌, ◌-◌, ◌*◌, ◌<◌, ◌≤◌, List, [], ℤ, Option, Some, None, length, take, slice_index_or}
+use Rattle.std.specs.Prelude.{◌≡◌, ℕ, ◌+◌, ◌-◌, ◌*◌, ◌<◌, ◌≤◌, List, [], ℤ, IsTrue, length, take, slice_index_or}
 use Rattle.std.specs.List.{AllByRecursion, Contains, sum_by}
 use Rattle.std.specs.List.Sorted.{IsNonDecreasingBy}
 use Rattle.stage_store.specs.Stage.{StageValue}
@@ -82,7 +82,6 @@ pub record IsOpen (s : StageValue) (e : ℕ) (opens : List OpenPair) : Type 0 wh
   pub whole : (p : ℕ) (z : List ℤ) → p < length (pairs_of s.listed e) → IsSumOf s.system.equations s.listed (pair_at s e p).0 (pair_at s e p).1 z
       → (x : OpenPair) × Contains opens x × (x.number ≡ p)
 
--- what is known of a norm ahead, if anything
-abbrev pub IsAhead : StageValue → Option Opened → Type 0
-IsAhead s None = Unit {0}
-IsAhead s (Some o) = IsOpen s o.norm o.pairs.items
+-- what is said of a norm's open pairs holds, once they are known
+abbrev pub IsAhead : StageValue → Opened → Type 0
+IsAhead s o = IsTrue o.known → IsOpen s o.norm o.pairs.items

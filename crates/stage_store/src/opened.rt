@@ -21,9 +21,10 @@ pub struct OpenPair {
     pub second: u32,
 }
 
-/// The open pairs of a norm, in order of their numbers.
+/// The open pairs of a norm, in order of their numbers, once they are known.
 #[derive(Drop)]
 pub struct Opened {
+    pub known: bool,
     pub norm: u64,
     pub pairs: Vec<OpenPair>,
 }
@@ -198,5 +199,9 @@ pub fn open_norm(
 {
     let mut pairs = open_kept(alloc, listed, width, plus, minus, e, kept)?;
     pairs.sort_by_key(|pair| pair.number)?;
-    Ok(Opened { norm: e, pairs })
+    Ok(Opened {
+        known: true,
+        norm: e,
+        pairs,
+    })
 }

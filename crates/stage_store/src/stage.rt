@@ -131,7 +131,7 @@ pub struct Stage {
     plus: Vec<Class>,
     minus: Vec<Class>,
     sieve: Sieve,
-    ahead: Option<Opened>,
+    ahead: Opened,
 }
 
 impl Model for Stage {
@@ -205,7 +205,11 @@ impl Stage {
             plus: Vec::new(alloc),
             minus: Vec::new(alloc),
             sieve: Sieve::new(alloc)?,
-            ahead: None,
+            ahead: Opened {
+                known: false,
+                norm: 0,
+                pairs: Vec::new(alloc),
+            },
         };
         stage.prepare()?;
         Ok(Lifted::Next(stage))
@@ -403,13 +407,10 @@ impl Stage {
         ensures kept { length rows.old.rows ≤ length rows.new.rows }
         ensures gains { GainsNumbered self.now norm first (first + count) rows.old.rows rows.new.rows }
     {
-        // So the number of pairs is known to be in range.
-        let _pairs = self.pairs_at(norm);
-        match &self.ahead {
-            Some(opened) if opened.norm == norm => {
-                take_opened(self, opened, first, count, hints, sum, rows)
-            }
-            _ => take_range(self, norm, first, count, hints, sum, rows),
+        if self.ahead.known && self.ahead.norm == norm {
+            take_opened(self, &self.ahead, first, count, hints, sum, rows);
+        } else {
+            take_range(self, norm, first, count, hints, sum, rows);
         }
     }
 
@@ -479,7 +480,7 @@ impl Stage {
         self.waited += growth.taken;
         self.used += growth.pairs;
         self.norm = closed.norm;
-        self.ahead = None;
+        self.ahead.known = false;
         // Where memory is refused here, the norm is closed all the same: its pairs are sifted with those of the next.
         let _ = self.prepare();
         Ok(())
@@ -528,7 +529,7 @@ impl Stage {
             e,
             shelf.pairs(),
         )?;
-        self.ahead = Some(opened);
+        self.ahead = opened;
         Ok(())
     }
 }

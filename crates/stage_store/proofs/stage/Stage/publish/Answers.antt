@@ -1,5 +1,5 @@
 use Rattle.std.proofs.Common.{◌≡◌, ◌∙◌, sym, arith, ap, subst, ◌+◌, length, length-append, ◌++◌, drop}
-use Rattle.std.specs.Prelude.{List, ℤ, None}
+use Rattle.std.specs.Prelude.{List, ℤ, false}
 use Rattle.std.proofs.Common.{refl}
 use Rattle.lift_core.specs.Stages.{IsNextNorm}
 use Rattle.stage_store.specs.Classes.{ClassValue, with_class}
@@ -27,7 +27,7 @@ overflow_add-self-2 c =
 pub invariant_of-self-2 : goal.invariant_of-self-2
 invariant_of-self-2 c =
     holds_after c.self.inside.system c.self.inside.number c.self.inside.norm c.self.inside.before c.args.closed.now.norm c.args.limit c.self.inside.waited c.self.inside.used c.self.inside.listed c.list_rows.new.listed c.self.inside.tree c.list_rows.new.tree c.self.inside.waiting
-    c.self.inside.plus.items c.self.inside.minus.items c.add_class.new.classes.items c.add_class-2.new.classes.items c.self.inside.sieve c.self.inside.ahead None c.in_ok-growth.growth
+    c.self.inside.plus.items c.self.inside.minus.items c.add_class.new.classes.items c.add_class-2.new.classes.items c.self.inside.sieve c.self.inside.ahead (record { known = false; norm = c.self.inside.ahead.norm; pairs = c.self.inside.ahead.pairs }) c.in_ok-growth.growth
     c.self.invariant (subst (λ (s : StageValue). IsNextNorm s.listed s.waiting s.norm c.args.closed.now.norm) (sym c.self.view_is) c.requires.next) c.requires.small c.requires.limit
     (subst (λ (s : StageValue). IsGrowth s c.args.closed.now.norm c.args.limit c.in_ok-growth.growth) (sym c.self.view_is) c.in_ok-growth.ensures)
     (c.list_rows.ensures.width ∙ c.make_room.ensures.listed.0)
