@@ -1,0 +1,16 @@
+//! Tests of the board and its workers, on real stages.
+//!
+//! The crates of the board and the workers hold no tests themselves: a crate with tests is proved once with and once without
+//! them.
+#![tactic(auto)]
+
+#[cfg(test)]
+mod by_hand;
+#[cfg(test)]
+mod meeting;
+#[cfg(test)]
+mod norms;
+#[cfg(test)]
+mod stages;
+#[cfg(test)]
+mod turns;
