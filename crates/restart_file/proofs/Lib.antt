@@ -1,3 +1,4 @@
 pub mod Spacing
 pub mod Counted
 pub mod Sending
+pub mod Numerals

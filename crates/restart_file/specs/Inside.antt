@@ -2,3 +2,4 @@
 pub mod Sending
 pub mod Classes
 pub mod Words
+pub mod Windows

@@ -7,6 +7,8 @@
 mod classes;
 mod lines;
 mod numbers;
+mod pulling;
+mod windows;
 mod writing;
 
 pub use lines::Version;

@@ -1,6 +1,6 @@
 //! The numbers of a line: they are guessed word by word, and the line that they make is compared byte for byte.
 
-ghost use Rattle.std.specs.Prelude.{◌≡◌, ◌++◌, ◌<◌, ◌≤◌, ℕ, ℤ, List, true, false, IsTrue, IfOk, length, slice_index, get_or};
+ghost use Rattle.std.specs.Prelude.{◌≡◌, ◌++◌, ◌∷◌, ◌<◌, ◌≤◌, ℕ, ℤ, List, true, false, IsTrue, IfOk, length, drop, slice_index, get_or};
 ghost use Rattle.std.specs.Fmt.{signed_decimal};
 ghost use Rattle.std.specs.List.{AllByRecursion, All};
 ghost use Rattle.lift_core.specs.Systems.{InRange};
@@ -56,6 +56,16 @@ fn number_in(word: &[u8]) -> i64
     }
 }
 
+// What stands behind the first byte.
+fn behind_first(text: &[u8]) -> &[u8]
+    ensures { (b : ℕ) (others : List ℕ) → text.now ≡ b ∷ others → result.now ≡ others }
+{
+    match text {
+        [_, others @ ..] => others,
+        [] => text,
+    }
+}
+
 // The cells of the text, where it is the line of so many cells.
 fn guess(text: &[u8], cells: &mut [i64])
     ensures cells { (zs : List ℤ) → length zs ≡ length cells.old → AllByRecursion InRange zs → text.now ≡ line_of zs → cells.new ≡ zs }
@@ -63,10 +73,17 @@ fn guess(text: &[u8], cells: &mut [i64])
 {
     let mut rest = text;
     for i in 0..cells.len() {
-        let len = word_len(rest);
-        cells[i] = number_in(&rest[..len]);
-        rest = rest.get(len + 1..).unwrap_or(&[]);
+        let (word, others) = rest.split_at(word_len(rest));
+        cells[i] = number_in(word);
+        rest = behind_first(others);
     }
+}
+
+// What stands behind so many bytes.
+fn behind(text: &[u8], len: usize) -> &[u8]
+    ensures { result.now ≡ drop len text.now }
+{
+    if len <= text.len() { &text[len..] } else { &[] }
 }
 
 // Whether the line is a word and the line of so many cells, all in range; then these are the cells.
@@ -80,7 +97,7 @@ pub(crate) fn cells_in(
     ensures complete { (zs : List ℤ) → length zs ≡ length cells.old → AllByRecursion InRange zs → line.now ≡ word.now ++ line_of zs → IfOk result (λ is. IsTrue is × (cells.new ≡ zs)) }
     ensures range { All InRange cells.new }
 {
-    guess(line.get(word.len()..).unwrap_or(&[]), cells);
+    guess(behind(line, word.len()), cells);
     text.clear();
     push_cells(text, word, cells)?;
     Ok(text.as_slice() == line)
