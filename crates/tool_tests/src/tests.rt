@@ -5,12 +5,13 @@ use outside::{MemFolder, MemSink, Words};
 use std::alloc::Global;
 use std::test::Fail;
 use tool_top::run_tool;
+use worker_gate::FreeGate;
 
 // A project's file, by its ending, and its text.
 type Text = (&'static str, &'static str);
 
 // A run: the tool, its words, its input files, the calls of the folder and of standard output that fail, and what is to
-// come: the status with its end, the output files, and what standard output gains.
+// come: the status with its end, the output files, and what standard output and standard error gain.
 #[derive(Clone, Copy)]
 struct Case {
     tool: Tool,
@@ -20,6 +21,7 @@ struct Case {
     end: &'static str,
     output: &'static [Text],
     out: &'static str,
+    err: &'static str,
 }
 
 // A run of a project that ends well.
@@ -38,12 +40,22 @@ const fn done(
         end,
         output,
         out,
+        err: "",
     }
 }
 
 // A run of a project that ends before anything is written.
-const fn refused(tool: Tool, input: &'static [Text], end: &'static str) -> Case {
-    done(tool, input, end, &[], "")
+const fn refused(tool: Tool, input: &'static [Text], end: &'static str, err: &'static str) -> Case {
+    Case {
+        tool,
+        words: &["P"],
+        input,
+        failing: (&[], &[]),
+        end,
+        output: &[],
+        out: "",
+        err,
+    }
 }
 
 // The endings of all output files.
@@ -57,8 +69,8 @@ fn file(alloc: Global, ending: &str) -> Result<String, Fail> {
 }
 
 // A text of the end, what was put out, and the files.
-fn report(alloc: Global, end: &str, out: &str, files: &str) -> Result<String, Fail> {
-    Ok(format!(in alloc; "{end}\n{out}\n{files}")?)
+fn report(alloc: Global, end: &str, out: &str, err: &str, files: &str) -> Result<String, Fail> {
+    Ok(format!(in alloc; "{end}\n{out}{err}{files}")?)
 }
 
 // The text of bytes.
@@ -101,28 +113,34 @@ fn words_of(alloc: Global, words: &[&str]) -> Result<Words, Fail> {
     Ok(list)
 }
 
-// The status and the end of a run.
-fn end_of_run(
-    alloc: Global,
-    tool: Tool,
-    words: &[&str],
-    folder: &mut MemFolder,
-    out: &mut MemSink,
-) -> Result<String, Fail> {
-    let words = words_of(alloc, words)?;
-    let mut err = MemSink::new(alloc, Vec::new(alloc));
-    let status = run_tool(alloc, tool, &words, folder, out, &mut err);
-    Ok(format!(in alloc; "{} {:?}", status.code, status.end)?)
-}
-
 // What a run of the case comes to.
-fn outcome(alloc: Global, case: &Case) -> Result<String, Fail> {
+fn outcome(rt: &HostRuntime, case: &Case) -> Result<String, Fail> {
+    let alloc = rt.alloc();
     let mut folder = folder_of(alloc, case.input, case.failing.0)?;
+    let words = words_of(alloc, case.words)?;
     let mut out = MemSink::new(alloc, case.failing.1.to_vec(alloc)?);
-    let end = end_of_run(alloc, case.tool, case.words, &mut folder, &mut out)?;
+    let mut err = MemSink::new(alloc, Vec::new(alloc));
+    let status = run_tool(
+        rt,
+        alloc,
+        case.tool,
+        &words,
+        &mut folder,
+        &mut out,
+        &mut err,
+        &FreeGate,
+    );
+    let end = format!(in alloc; "{} {:?}", status.code, status.end)?;
     let put = text(alloc, out.bytes())?;
+    let said = text(alloc, err.bytes())?;
     let files = outputs(alloc, &folder)?;
-    report(alloc, end.as_str(), put.as_str(), files.as_str())
+    report(
+        alloc,
+        end.as_str(),
+        put.as_str(),
+        said.as_str(),
+        files.as_str(),
+    )
 }
 
 // What the case is to come to.
@@ -133,14 +151,15 @@ fn wanted(alloc: Global, case: &Case) -> Result<String, Fail> {
         files.push('\n')?;
         files.push_str(text)?;
     }
-    report(alloc, case.end, case.out, files.as_str())
+    report(alloc, case.end, case.out, case.err, files.as_str())
 }
 
 // What came and what was to come, for each case where these differ.
-fn differences(alloc: Global, cases: &[Case]) -> Result<String, Fail> {
+fn differences(rt: &HostRuntime, cases: &[Case]) -> Result<String, Fail> {
+    let alloc = rt.alloc();
     let mut shown = String::new(alloc);
     for case in cases {
-        let came = outcome(alloc, case)?;
+        let came = outcome(rt, case)?;
         let due = wanted(alloc, case)?;
         if came.as_str() != due.as_str() {
             shown.push_str("came: ")?;
@@ -161,7 +180,7 @@ fn three_unit_vectors_are_written(rt: HostRuntime) -> Result<(), Fail> {
         &[(".hil", "3 3\n0 0 1\n0 1 0\n1 0 0\n")],
         "3 solutions, 0 pairs\n",
     )];
-    assert_eq!(rt; differences(rt.alloc(), &cases)?.as_str(), "");
+    assert_eq!(rt; differences(&rt, &cases)?.as_str(), "");
     Ok(())
 }
 
@@ -293,7 +312,7 @@ fn minimal_solutions_are_written(rt: HostRuntime) -> Result<(), Fail> {
             "0 solutions, 2 pairs\n",
         ),
     ];
-    assert_eq!(rt; differences(rt.alloc(), &cases)?.as_str(), "");
+    assert_eq!(rt; differences(&rt, &cases)?.as_str(), "");
     Ok(())
 }
 
@@ -325,14 +344,13 @@ fn seventeen_by_seventeen_have_all_pairs(rt: HostRuntime) -> Result<(), Fail> {
             "1 34\n1 1 1 1 1 1 1 1 1 1 1 1 1 1 1 1 1 -1 -1 -1 -1 -1 -1 -1 -1 -1 -1 -1 -1 -1 -1 -1 -1 -1\n",
         )],
         "",
+        "",
     );
     let end = "0 Done { solutions: 289, pairs: 289, norm_total: 578 }";
     let out = "289 solutions, 289 pairs\n";
     let files = format!(in alloc; ".hil\n289 34\n{}", pair_rows(alloc)?)?;
-    assert_eq!(rt;
-        outcome(alloc, &case)?.as_str(),
-        report(alloc, end, out, files.as_str())?.as_str()
-    );
+    let due = report(alloc, end, out, "", files.as_str())?;
+    assert_eq!(rt; outcome(&rt, &case)?.as_str(), due.as_str());
     Ok(())
 }
 
@@ -342,91 +360,133 @@ fn a_long_file_is_not_read(rt: HostRuntime) -> Result<(), Fail> {
     let alloc = rt.alloc();
     let mut folder = MemFolder::new(alloc, Vec::new(alloc));
     folder.insert("P.mat", vec![in alloc; b' '; 4_194_305]?.as_slice())?;
+    let words = words_of(alloc, &["P"])?;
     let mut out = MemSink::new(alloc, Vec::new(alloc));
-    let end = end_of_run(alloc, Tool::Hilbert, &["P"], &mut folder, &mut out)?;
-    assert_eq!(rt; end.as_str(), "2 TooLong(Mat)");
+    let mut err = MemSink::new(alloc, Vec::new(alloc));
+    let status = run_tool(
+        &rt,
+        alloc,
+        Tool::Hilbert,
+        &words,
+        &mut folder,
+        &mut out,
+        &mut err,
+        &FreeGate,
+    );
+    let end = format!(in alloc; "{} {:?}", status.code, status.end)?;
+    let said = text(alloc, err.bytes())?;
+    let came = report(alloc, end.as_str(), "", said.as_str(), "")?;
+    assert_eq!(rt;
+        came.as_str(),
+        "2 TooLong(Mat)\nhilbert: P.mat: longer than 4194304 bytes\n"
+    );
     Ok(())
 }
 
 #[test]
 fn the_first_fault_is_the_end(rt: HostRuntime) -> Result<(), Fail> {
     let cases = [
-        refused(Tool::Hilbert, &[], "2 Missing(Mat)"),
+        refused(
+            Tool::Hilbert,
+            &[],
+            "2 Missing(Mat)",
+            "hilbert: P.mat: no such file\n",
+        ),
         refused(
             Tool::Hilbert,
             &[(".mat", "2 2\n1 2 3\n")],
             "2 Text(Mat, Early { at: 10 })",
+            "hilbert: P.mat: byte 10: more expected\n",
         ),
         refused(
             Tool::Hilbert,
             &[(".mat", "1 1\n9223372036854775808\n")],
             "2 Text(Mat, OutOfRange { at: 4 })",
+            "hilbert: P.mat: byte 4: out of range\n",
         ),
         refused(
             Tool::Hilbert,
             &[(".mat", "1 1\n3x\n")],
             "2 Text(Mat, NotNumber { at: 4 })",
+            "hilbert: P.mat: byte 4: not a number\n",
         ),
         refused(
             Tool::Hilbert,
             &[(".mat", "1 1\n5 6\n")],
             "2 Text(Mat, Extra { at: 6 })",
+            "hilbert: P.mat: byte 6: nothing more expected\n",
         ),
         refused(
             Tool::Hilbert,
             &[(".mat", "")],
             "2 Text(Mat, Early { at: 0 })",
+            "hilbert: P.mat: byte 0: more expected\n",
         ),
         refused(
             Tool::Hilbert,
             &[(".mat", "65 1\n")],
             "2 Text(Mat, TooManyRows { found: 65 })",
+            "hilbert: P.mat: 65 rows, at most 64\n",
         ),
         refused(
             Tool::Hilbert,
             &[(".mat", "1 65\n")],
             "2 Text(Mat, TooManyCols { found: 65 })",
+            "hilbert: P.mat: 65 columns, at most 64\n",
         ),
-        refused(Tool::Hilbert, &[(".mat", "1 0\n")], "2 Text(Mat, NoCols)"),
+        refused(
+            Tool::Hilbert,
+            &[(".mat", "1 0\n")],
+            "2 Text(Mat, NoCols)",
+            "hilbert: P.mat: no columns\n",
+        ),
         refused(
             Tool::Hilbert,
             &[(".mat", "0 3\n"), (".ub", "")],
             "2 Refused(Ub)",
+            "hilbert: P.ub: not supported\n",
         ),
         refused(
             Tool::Hilbert,
             &[(".mat", "1 2\n1 -1\n"), (".rhs", "1 1\n0\n")],
             "2 Shape(RhsNotHere)",
+            "hilbert: P.rhs: only for zsolve\n",
         ),
         refused(
             Tool::Graver,
             &[(".mat", "1 2\n1 -1\n"), (".rhs", "1 1\n0\n")],
             "2 Shape(RhsNotHere)",
+            "graver: P.rhs: only for zsolve\n",
         ),
         refused(
             Tool::Hilbert,
             &[(".mat", "1 2\n1 -1\n"), (".rel", "1 2\n< =\n")],
             "2 Shape(RelShape { rows: 1, cols: 2 })",
+            "hilbert: P.rel: wrong shape 1 x 2\n",
         ),
         refused(
             Tool::Zsolve,
             &[(".mat", "1 2\n1 -1\n")],
             "2 Shape(SignNeeded)",
+            "zsolve: P.sign: needed\n",
         ),
         refused(
             Tool::Zsolve,
             &[(".mat", "1 2\n1 -1\n"), (".sign", "1 2\n1 0\n")],
             "2 Shape(Free { at: 2 })",
+            "zsolve: P.sign: column 2: free variables are not supported\n",
         ),
         refused(
             Tool::Zsolve,
             &[(".mat", "1 2\n1 -1\n"), (".sign", "1 2\n1 3\n")],
             "2 Shape(BadSign { at: 2, value: 3 })",
+            "zsolve: P.sign: column 2: bad sign 3\n",
         ),
         refused(
             Tool::Zsolve,
             &[(".mat", "1 2\n1 -1\n"), (".sign", "1 1\n1\n")],
             "2 Shape(SignShape { rows: 1, cols: 1 })",
+            "zsolve: P.sign: wrong shape 1 x 1\n",
         ),
         refused(
             Tool::Zsolve,
@@ -436,20 +496,89 @@ fn the_first_fault_is_the_end(rt: HostRuntime) -> Result<(), Fail> {
                 (".rhs", "2 1\n0\n0\n"),
             ],
             "2 Shape(RhsShape { rows: 2, cols: 1 })",
+            "zsolve: P.rhs: wrong shape 2 x 1\n",
+        ),
+        refused(
+            Tool::Hilbert,
+            &[(".mat", "1 2\n1 -2\n"), (".cap", "1 2\n-1 *\n")],
+            "2 Text(Cap, NotCap { at: 4 })",
+            "hilbert: P.cap: byte 4: not a cap\n",
+        ),
+        refused(
+            Tool::Hilbert,
+            &[(".mat", "1 2\n1 -2\n"), (".cap", "1 1\n*\n")],
+            "2 Shape(CapShape { rows: 1, cols: 1 })",
+            "hilbert: P.cap: wrong shape 1 x 1\n",
         ),
         // A number leaves the range at the second equation.
         refused(
             Tool::Hilbert,
             &[(".mat", "2 3\n1 -3 0\n4611686018427387904 0 -1\n")],
             "3 Overflow { stage: 2, place: Row(IntRow { cells: [3, 1, 0] }) }",
+            "hilbert: overflow at equation 2: solution 3 1 0\n",
         ),
-        // Words that are no project's name.
+    ];
+    assert_eq!(rt; differences(&rt, &cases)?.as_str(), "");
+    Ok(())
+}
+
+#[test]
+fn words_and_caps_are_obeyed(rt: HostRuntime) -> Result<(), Fail> {
+    let cases = [
         Case {
             words: &["P", "Q"],
-            ..refused(Tool::Hilbert, &[(".mat", "0 3\n")], "1 Usage")
+            ..refused(
+                Tool::Hilbert,
+                &[(".mat", "0 3\n")],
+                "1 Usage",
+                "hilbert: usage: hilbert [-q|--quiet] [--workers=N] [--pairs=N] [--rows=N] [--backup=N] [-r|--resume] PROJECT\n",
+            )
         },
+        Case {
+            words: &["--rows=3", "P"],
+            ..refused(
+                Tool::Hilbert,
+                &[(".mat", "1 2\n1 -2\n")],
+                "4 Rows { stage: 1, norm: 3, count: 4 }",
+                "hilbert: row budget spent at equation 1, norm 3: 4 rows needed\n",
+            )
+        },
+        Case {
+            words: &["--pairs", "1", "P"],
+            ..refused(
+                Tool::Hilbert,
+                &[(
+                    ".mat",
+                    "2 3\n1 -1 0\n4611686018427387904 4611686018427387903 -9223372036854775807\n",
+                )],
+                "4 Pairs { stage: 2, norm: 3, needed: 2 }",
+                "hilbert: pair budget spent at equation 2, norm 3: 2 pairs needed\n",
+            )
+        },
+        Case {
+            words: &["-q", "--workers=2", "P"],
+            ..done(
+                Tool::Hilbert,
+                &[(".mat", "1 2\n1 -2\n"), (".cap", "1 2\n1 *\n")],
+                "0 Done { solutions: 0, pairs: 2, norm_total: 0 }",
+                &[(".hil", "0 2\n")],
+                "",
+            )
+        },
+        done(
+            Tool::Zsolve,
+            &[
+                (".mat", "1 2\n1 1\n"),
+                (".sign", "1 2\n1 1\n"),
+                (".rhs", "1 1\n3\n"),
+                (".cap", "1 2\n2 2\n"),
+            ],
+            "0 Done { solutions: 2, pairs: 12, norm_total: 6 }",
+            &[(".zhom", "0 2\n"), (".zinhom", "2 2\n1 2\n2 1\n")],
+            "2 solutions, 12 pairs\n",
+        ),
     ];
-    assert_eq!(rt; differences(rt.alloc(), &cases)?.as_str(), "");
+    assert_eq!(rt; differences(&rt, &cases)?.as_str(), "");
     Ok(())
 }
 
@@ -468,14 +597,25 @@ fn a_device_fault_is_named(rt: HostRuntime) -> Result<(), Fail> {
     let cases = [
         Case {
             failing: (&[2], &[]),
-            ..refused(Tool::Zsolve, POLYGON, "5 Outside(Mat)")
+            ..refused(
+                Tool::Zsolve,
+                POLYGON,
+                "5 Outside(Mat)",
+                "zsolve: P.mat: device failure\n",
+            )
         },
         Case {
             failing: (&[10], &[]),
-            ..refused(Tool::Zsolve, POLYGON, "5 Outside(Lat)")
+            ..refused(
+                Tool::Zsolve,
+                POLYGON,
+                "5 Outside(Lat)",
+                "zsolve: P.lat: device failure\n",
+            )
         },
         Case {
             failing: (&[21], &[]),
+            err: "zsolve: P.zinhom: device failure\n",
             ..done(
                 Tool::Zsolve,
                 POLYGON,
@@ -489,6 +629,7 @@ fn a_device_fault_is_named(rt: HostRuntime) -> Result<(), Fail> {
         },
         Case {
             failing: (&[], &[2]),
+            err: "zsolve: standard output: device failure\n",
             ..done(
                 Tool::Zsolve,
                 POLYGON,
@@ -501,6 +642,6 @@ fn a_device_fault_is_named(rt: HostRuntime) -> Result<(), Fail> {
             )
         },
     ];
-    assert_eq!(rt; differences(rt.alloc(), &cases)?.as_str(), "");
+    assert_eq!(rt; differences(&rt, &cases)?.as_str(), "");
     Ok(())
 }

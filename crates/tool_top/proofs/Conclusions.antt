@@ -8,7 +8,7 @@ use Rattle.lift_core.specs.declared.Tool.TheVariants.{Graver, Hilbert, Zsolve}
 use Rattle.lift_core.specs.Ends.{RunEnds}
 use Rattle.lift_run.specs.declared.ends.Place.TheVariants.{Row, Norm}
 use Rattle.lift_run.specs.declared.ends.RunEnd.{RunEnd}
-use Rattle.lift_run.specs.declared.ends.RunEnd.TheVariants.{Overflow as RunOverflow, Pairs as RunPairs, Rows as RunRows, Memory as RunMemory}
+use Rattle.lift_run.specs.declared.ends.RunEnd.TheVariants.{Overflow as RunOverflow, Pairs as RunPairs, Rows as RunRows, Failed as RunFailed, Memory as RunMemory}
 use Rattle.lift_run.specs.Runs.{end_of_error}
 use Rattle.system_shape.specs.Problem.{UserSystem}
 use Rattle.system_shape.specs.Shape.{user_system, tool_system}
@@ -154,6 +154,7 @@ module _ (tool : Tool) (job : Job) (input : Input) where
   run_ends (RunOverflow k (Norm d)) s t u = record { comes = s; leaves = u }
   run_ends (RunPairs k d n) s t u = record { comes = s; leaves = u }
   run_ends (RunRows k d n) s t u = record { comes = s; leaves = u }
+  run_ends RunFailed s t u = memory_ends (Ok the_plan) t u
   run_ends RunMemory s t u = memory_ends (Ok the_plan) t u
 
   pub ends-run : (held : Option Files) (told : Option (List ℕ)) (e : RunEnd) (r : Result Totals End) (S : ToolSystem) → S ≡ tool_system tool input

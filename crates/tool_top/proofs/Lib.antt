@@ -2,3 +2,4 @@ pub mod Cuts
 pub mod Conclusions
 pub mod Wanted
 pub mod Sequences
+pub mod Speaking

@@ -28,7 +28,7 @@ pub record IsUntouched (t : Traces) : Type 0 where
   pub out : t.out_after ≡ t.out_before
 
 -- all output files hold their texts, and the summary was put
-pub record IsDone (plan : Plan) (t : Traces) (solutions pairs norms : ℕ) : Type 0 where
+pub record IsConcluded (plan : Plan) (t : Traces) (solutions pairs norms : ℕ) : Type 0 where
   pub files : HasWritten plan t.files_before t.files_after
   pub out : t.out_after ≡ append_known t.out_before (summary_of plan.job solutions pairs norms)
 
@@ -68,7 +68,7 @@ LeavesCut plan t part = IsUntouched t
 
 -- what stands at an end; want of memory leaves what the fault of some part leaves
 abbrev pub Leaves : Result Plan End → Traces → End → Type 0
-Leaves plan t (Done solutions pairs norms) = IsOkAnd plan (λ p. IsDone p t solutions pairs norms)
+Leaves plan t (Done solutions pairs norms) = IsOkAnd plan (λ p. IsConcluded p t solutions pairs norms)
 Leaves plan t (Outside part) = LeavesCut plan t part
 Leaves plan t Memory = (part : Part) × LeavesCut plan t part
 Leaves plan t end = IsUntouched t

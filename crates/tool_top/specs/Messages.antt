@@ -1,7 +1,7 @@
 -- The line that a command puts on standard error where it does not end well.
-use Rattle.std.specs.Prelude.{ℕ, ℤ, List, [], ◌∷◌, ◌++◌, map, codes, decimal}
+use Rattle.std.specs.Prelude.{◌≡◌, ℕ, ℤ, Option, List, [], ◌∷◌, ◌++◌, map, codes, decimal}
 use Rattle.std.specs.Fmt.{signed_decimal}
-use Rattle.outside.specs.Pieces.{text_of_parts}
+use Rattle.outside.specs.Pieces.{text_of_parts, MayPut}
 use Rattle.mat_files.specs.declared.faults.TextFault.{TextFault}
 use Rattle.mat_files.specs.declared.faults.TextFault.TheVariants.{NotNumber, NotRelation, NotCap, OutOfRange, Early, Extra, TooManyRows, TooManyCols, NoCols}
 use Rattle.system_shape.specs.declared.faults.ShapeFault.{ShapeFault}
@@ -106,6 +106,11 @@ words_of tool project Memory = codes "out of memory" ∷ []
 abbrev pub message_of : Tool → List ℕ → End → List ℕ
 message_of tool project end =
     text_of_parts (tool_name tool ∷ codes ": " ∷ words_of tool project end ++ codes "\n" ∷ [])
+
+-- at Done nothing is put on standard error; at each other end its line, or a prefix of it where that was refused
+abbrev pub Speaks : Tool → List ℕ → End → Option (List ℕ) → Option (List ℕ) → Type 0
+Speaks tool project (Done solutions pairs norms) old new = new ≡ old
+Speaks tool project end old new = MayPut (message_of tool project end) old new
 
 -- all is done, and there is nothing to say
 abbrev pub IsDone : End → Type 0

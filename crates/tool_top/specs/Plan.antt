@@ -37,6 +37,11 @@ system_of_plan p = tool_system p.tool p.input
 abbrev pub project_of : Job → List ℕ
 project_of job = unwrap_or job.project []
 
+-- the project of the words, empty where they name none
+abbrev pub named_project : Option Job → List ℕ
+named_project None = []
+named_project (Some job) = project_of job
+
 -- restart files and tables are not built yet
 abbrev pub is_built : Job → Bool
 is_built job = is_none job.tables && (is_none job.backup && not job.resume)

@@ -1,7 +1,8 @@
 //! How a run ends, and which file an end speaks of.
 
-ghost use Rattle.std.specs.Prelude.{◌≡◌};
+ghost use Rattle.std.specs.Prelude.{◌≡◌, IsTrue};
 ghost use Rattle.tool_top.specs.declared.ends.End.TheVariants.{Memory};
+ghost use Rattle.tool_top.specs.Messages.{IsDone};
 ghost use Rattle.tool_top.specs.Summary.{code_of};
 ghost use Rattle.tool_top.specs.Plan.{part_of, answer_of};
 ghost use Rattle.tool_top.specs.Inside.Ends.{end_at, end_of};
@@ -171,7 +172,8 @@ impl From<RunEnd> for End {
                 needed,
             },
             RunEnd::Rows { stage, norm, count } => End::Rows { stage, norm, count },
-            RunEnd::Memory => End::Memory,
+            // A run whose Keep keeps nothing does not fail.
+            RunEnd::Failed | RunEnd::Memory => End::Memory,
         }
     }
 }
@@ -216,6 +218,17 @@ pub struct Status {
     pub code: u8,
     /// The end that it stands for.
     pub end: End,
+}
+
+// Whether all is done.
+pub(crate) fn is_done(end: &End) -> bool
+    ensures done { IsTrue result → IsDone end.now }
+    ensures other { IsDone end.now → IsTrue result }
+{
+    match end {
+        End::Done { .. } => true,
+        _ => false,
+    }
 }
 
 // The exit status of an end.

@@ -8,6 +8,7 @@ use std::fs::File;
 use std::io::ErrorKind;
 use std::process::ExitCode;
 use std::{env, io};
+use worker_gate::FreeGate;
 
 // The exit statuses that come before the top call.
 const WRONG_WORDS: u8 = 1;
@@ -52,6 +53,15 @@ pub fn run_program(rt: &HostRuntime, tool: Tool) -> ExitCode {
     let mut folder = DirFolder::new(rt);
     let mut out = StdSink::out(rt);
     let mut err = StdSink::err(rt);
-    let status = run_tool(rt.alloc(), tool, &words, &mut folder, &mut out, &mut err);
+    let status = run_tool(
+        rt,
+        rt.alloc(),
+        tool,
+        &words,
+        &mut folder,
+        &mut out,
+        &mut err,
+        &FreeGate,
+    );
     ExitCode::from(status.code)
 }

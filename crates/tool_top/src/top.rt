@@ -5,24 +5,28 @@ ghost use Rattle.outside.specs.Causes.{Rose};
 ghost use Rattle.system_files.specs.Inputs.{IsShaped};
 ghost use Rattle.tool_words.specs.Jobs.{IsWithinLimits};
 ghost use Rattle.tool_words.specs.declared.jobs.Job.{Job};
-ghost use Rattle.tool_top.specs.Plan.{planned, plan_of, plan_for, job_in, project_of, is_built};
+ghost use Rattle.tool_top.specs.Plan.{planned, plan_of, plan_for, job_in, named_project, project_of, is_built};
 ghost use Rattle.tool_top.specs.Outputs.{HasWritten};
 ghost use Rattle.tool_top.specs.Expected.{ComesTo, IsExpected, OnDone};
+ghost use Rattle.tool_top.specs.Messages.{Speaks};
 ghost use Rattle.tool_top.specs.Summary.{Tells, code_of};
 ghost use Rattle.tool_top.specs.Left.{Leaves};
 ghost use Rattle.tool_top.specs.Inside.Ends.{Ends, Asks, end_of, HasSinkCause};
 ghost use Rattle.tool_top.specs.Inside.Writing.{outputs_of, TellsOf};
 
-use crate::ends::{Totals, code, refused_at, settle};
+use crate::ends::{Totals, code, is_done, refused_at, settle};
+use crate::messages::put_message;
 use crate::outputs::{Outputs, count_rows, norm_total, select_outputs, write_outputs};
 use crate::summary::put_summary;
 use crate::{End, Part, Status};
 use lift_core::Tool;
-use lift_run::{Limits, run_system};
+use lift_run::{Limits, NoKeep, run_system};
 use outside::{Folder, Sink, Words};
 use std::alloc::Global;
+use std::thread::Threads;
 use system_files::{Shaped, read_shaped};
 use tool_words::{Job, WordEnd, read_words};
+use worker_gate::Gate;
 
 // The project's name, empty where there is none.
 fn project_of(job: &Job) -> &str
@@ -73,13 +77,15 @@ fn tell<O: Sink>(out: &mut O, job: &Job, outputs: &Outputs, pairs: u64) -> Resul
 }
 
 // Solves the system of a project, writes the output files, and tells the summary.
-fn carry_out<F: Folder, O: Sink>(
+fn carry_out<R: Threads + Sync, F: Folder, O: Sink, G: Gate + Sync>(
+    rt: &R,
     alloc: Global,
     tool: Tool,
     job: &Job,
     shaped: Shaped,
     folder: &mut F,
     out: &mut O,
+    gate: &G,
 ) -> Result<Totals, End>
     requires shaped { IsShaped tool shaped.input shaped.system }
     requires within { IsWithinLimits job.now }
@@ -94,22 +100,25 @@ fn carry_out<F: Folder, O: Sink>(
     ensures out_fault { end_of result ≡ End.Outside Part.Out → Rose (O.faults out.old) (O.faults out.new) }
 {
     let limits = Limits {
+        workers: job.workers,
         pairs: job.pairs,
         rows: job.rows,
     };
-    let finish = run_system(alloc, shaped.system, limits)?;
+    let finish = run_system(rt, alloc, shaped.system, limits, gate, &mut NoKeep)?;
     let outputs = select_outputs(alloc, &finish)?;
     write_outputs(alloc, folder, project_of(job), &outputs)?;
     tell(out, job, &outputs, finish.pairs)
 }
 
 // All steps behind the words, to the numbers of the run or the end that comes before them.
-fn attempt<F: Folder, O: Sink>(
+fn attempt<R: Threads + Sync, F: Folder, O: Sink, G: Gate + Sync>(
+    rt: &R,
     alloc: Global,
     tool: Tool,
     job: &Job,
     folder: &mut F,
     out: &mut O,
+    gate: &G,
 ) -> Result<Totals, End>
     requires { IsWithinLimits job.now }
     ensures ends { IfSome (F.held folder.old) (λ files. Ends (plan_of tool job.now files)
@@ -122,16 +131,29 @@ fn attempt<F: Folder, O: Sink>(
     ensures out_fault { end_of result ≡ End.Outside Part.Out → Rose (O.faults out.old) (O.faults out.new) }
 {
     let shaped = read_shaped(alloc, tool, folder, project_of(job))?;
-    carry_out(alloc, tool, job, shaped, folder, out)
+    carry_out(rt, alloc, tool, job, shaped, folder, out, gate)
 }
 
-// The end of the job of the words, or of words that are refused.
-fn finish<F: Folder, O: Sink>(
+// Puts the line of an end that is not Done. Where that is refused, nothing else changes.
+fn speak<E: Sink>(tool: Tool, project: &str, end: &End, err: &mut E)
+    ensures { Speaks tool project.now end.now (E.held err.old) (E.held err.new) }
+{
+    if is_done(end) {
+        return;
+    }
+    let _ = put_message(tool, project, end, err);
+}
+
+// The end of the job of the words, or of words that are refused, with its line.
+fn finish<R: Threads + Sync, F: Folder, O: Sink, E: Sink, G: Gate + Sync>(
+    rt: &R,
     alloc: Global,
     tool: Tool,
     job: Result<Job, WordEnd>,
     folder: &mut F,
     out: &mut O,
+    err: &mut E,
+    gate: &G,
 ) -> End
     requires { IfOk job IsWithinLimits }
     ensures ends { (asked : Option Job) → Asks asked job
@@ -140,6 +162,8 @@ fn finish<F: Folder, O: Sink>(
         result) }
     ensures tells { (asked : Option Job) → Asks asked job
         → Tells asked (O.held out.old) (O.held out.new) result }
+    ensures message { (asked : Option Job) → Asks asked job
+        → Speaks tool (named_project asked) result (E.held err.old) (E.held err.new) }
     ensures words { (asked : Option Job) → Asks asked job → result ≡ End.Usage → asked ≡ None }
     ensures usage { (asked : Option Job) → Asks asked job → asked ≡ None
         → (result ≡ End.Usage) ⊎ (result ≡ End.Memory) }
@@ -149,16 +173,24 @@ fn finish<F: Folder, O: Sink>(
 {
     match job {
         Ok(job) => {
-            let outcome = attempt(alloc, tool, &job, folder, out);
-            settle(outcome)
+            let outcome = attempt(rt, alloc, tool, &job, folder, out, gate);
+            let end = settle(outcome);
+            speak(tool, project_of(&job), &end, err);
+            end
         }
-        Err(refused) => End::from(refused),
+        Err(refused) => {
+            let end = End::from(refused);
+            speak(tool, "", &end, err);
+            end
+        }
     }
 }
 
 /// Does all that a command does: reads the project's files from `folder`, solves the system that they say, writes its
 /// minimal solutions, and puts a summary on `out`, unless the words ask for quiet. `words` are the command's words
-/// without the program's name; `--pairs` and `--rows` bound the run. Nothing is put on `err` yet.
+/// without the program's name; `--pairs` and `--rows` bound the run, and `--workers` says
+/// how many workers share a norm; no answer depends on their number or on `gate`.
+/// At each end but Done its line is put on `err`, by [`put_message`]; a refusal there changes no status.
 ///
 /// For a project P the files are those of the 4ti2 user manual: `P.mat`, and `P.sign`, `P.rel`, `P.rhs` where they are
 /// there; `P.cap` bounds the absolute values of the columns. `graver` writes the Graver basis (Graver 1975) to `P.gra`,
@@ -171,13 +203,15 @@ fn finish<F: Folder, O: Sink>(
 /// (`.mat` alone), [`End::TooLong`], [`End::Text`]; [`End::Refused`] where `.lat`, `.lb` or `.ub` is there;
 /// [`End::Shape`]; [`End::Overflow`], [`End::Pairs`] or [`End::Rows`] as the run comes to it; else [`End::Done`].
 /// [`End::Outside`] may come in place of each but `Usage`, and [`End::Memory`] in place of each.
-pub fn run_tool<F: Folder, O: Sink, E: Sink>(
+pub fn run_tool<R: Threads + Sync, F: Folder, O: Sink, E: Sink, G: Gate + Sync>(
+    rt: &R,
     alloc: Global,
     tool: Tool,
     words: &Words,
     folder: &mut F,
     out: &mut O,
     err: &mut E,
+    gate: &G,
 ) -> Status
     // Where the folder tells its files: at Done, the output files hold exactly the wanted rows of the user's own system,
     // and all other files are as before.
@@ -210,11 +244,12 @@ pub fn run_tool<F: Folder, O: Sink, E: Sink>(
     ensures out_fault { result.end ≡ End.Outside Part.Out → Rose (O.faults out.old) (O.faults out.new) }
 
     ensures code { result.code ≡ code_of result.end }
-    ensures err { E.held err.new ≡ E.held err.old }
+
+    // At each end but Done, standard error has gained its line, or a prefix of it where that was refused.
+    ensures message { Speaks tool (named_project (job_in tool words.now)) result.end (E.held err.old) (E.held err.new) }
 {
-    let _ = &err;
     let job = job_in(alloc, tool, words);
-    let end = finish(alloc, tool, job, folder, out);
+    let end = finish(rt, alloc, tool, job, folder, out, err, gate);
     Status {
         code: code(&end),
         end,

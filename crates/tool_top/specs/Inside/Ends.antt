@@ -4,7 +4,7 @@ use Rattle.outside.specs.Causes.{Rose}
 use Rattle.outside.specs.declared.ends.PutEnd.{PutEnd}
 use Rattle.outside.specs.declared.ends.PutEnd.TheVariants.{Failed, Memory as PutMemory}
 use Rattle.lift_run.specs.declared.ends.RunEnd.{RunEnd}
-use Rattle.lift_run.specs.declared.ends.RunEnd.TheVariants.{Overflow as RunOverflow, Pairs as RunPairs, Rows as RunRows, Memory as RunMemory}
+use Rattle.lift_run.specs.declared.ends.RunEnd.TheVariants.{Overflow as RunOverflow, Pairs as RunPairs, Rows as RunRows, Failed as RunFailed, Memory as RunMemory}
 use Rattle.system_files.specs.declared.faults.InputStop.{InputStop}
 use Rattle.system_files.specs.declared.faults.InputStop.TheVariants as stop
 use Rattle.tool_words.specs.declared.jobs.Job.{Job}
@@ -28,10 +28,12 @@ end_of_stop (stop.Bad fault) = answer_of fault
 end_of_stop (stop.Failed source) = Outside (part_of source)
 end_of_stop stop.Memory = Memory
 
+-- a run whose Keep keeps nothing does not fail
 abbrev pub end_of_run : RunEnd → End
 end_of_run (RunOverflow stage place) = Overflow stage place
 end_of_run (RunPairs stage norm needed) = Pairs stage norm needed
 end_of_run (RunRows stage norm count) = Rows stage norm count
+end_of_run RunFailed = Memory
 end_of_run RunMemory = Memory
 
 -- the words are refused

@@ -30,3 +30,6 @@ returns-clause-tells g c = c.finish-end.ensures.tells (job_in c.args.tool c.args
 
 pub returns-clause-words : goal.returns-clause-words
 returns-clause-words g c = c.finish-end.ensures.words (job_in c.args.tool c.args.words.now) c.job_in-job.ensures.asks
+
+pub returns-clause-message : goal.returns-clause-message
+returns-clause-message g c = c.finish-end.ensures.message (job_in c.args.tool c.args.words.now) c.job_in-job.ensures.asks
