@@ -15,8 +15,9 @@ use Rattle.int_vector.specs.Range.{InRange}
 use Rattle.lift_core.specs.Lists.{cut_rows}
 use Rattle.lift_core.proofs.Lists.{contains_cases, contains_head, contains_tail, contains_nothing, each_contained}
 use Rattle.lift_core.proofs.Orders.{in_filter, from_filter}
-use Rattle.solution_files.specs.Steps.{rows_behind, AreRows, IsOrdered}
-use Rattle.solution_files.proofs.RowLemmas.{behind_pushed}
+use Rattle.lift_core.specs.Inside.OrderedRows.{rows_behind, IsOrdered}
+use Rattle.solution_files.specs.Steps.{AreRows}
+use Rattle.solution_files.proofs.SelectedRows.{behind_pushed}
 use Rattle.circuit_tool.specs.Circuits.{IsLeastRow, AreLeastRows}
 use Rattle.circuit_tool.specs.Inside.Supports.{word_of, is_within, is_strictly_within, words_in, least_from, AreLeast, is_kept}
 use Rattle.circuit_tool.proofs.Words.{strict_of_test, test_of_strict, strict_below, nonzero_of_word, word_of_nonzero}

@@ -7,4 +7,6 @@ use Rattle.circuit_tool.specs.Circuits.{AreLeastRows, AreCircuits}
 
 -- of a Graver basis, the rows of least support are exactly the circuits
 abbrev pub LeastRowsAreCircuits : Type 0
-LeastRowsAreCircuits = (mat : Matrix) (set rows : List (List ℤ)) → IsGraverBasis mat set → AreLeastRows set rows → AreCircuits mat.cols (rows_in mat) rows
+LeastRowsAreCircuits =
+    (mat : Matrix) (set rows : List (List ℤ))
+    → IsGraverBasis mat set → AreLeastRows set rows → AreCircuits mat.cols (rows_in mat) rows

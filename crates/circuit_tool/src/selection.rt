@@ -2,14 +2,16 @@
 ghost use Rattle.std.specs.Prelude.{◌≡◌, ◌≤◌, ◌<◌, ◌^◌, List, ℤ, length, IfOk};
 ghost use Rattle.std.specs.List.{AllByRecursion, filter};
 ghost use Rattle.solution_files.specs.Outputs.{grid_of};
-ghost use Rattle.solution_files.specs.Steps.{rows_behind, AreRows};
+ghost use Rattle.lift_core.specs.Inside.OrderedRows.{rows_behind};
+ghost use Rattle.solution_files.specs.Steps.{AreRows};
 ghost use Rattle.system_files.specs.Kernel.{rows_in};
 ghost use Rattle.circuit_tool.specs.Circuits.{AreLeastRows};
 ghost use Rattle.circuit_tool.specs.Inside.Supports.{is_kept};
 
 use crate::supports::{has_strictly_within, least_supports, support};
 use mat_files::Grid;
-use solution_files::{lay_out, put_in_order};
+use lift_core::put_in_order;
+use solution_files::lay_out;
 use std::alloc::{AllocError, Global};
 use system_files::{row, row_count};
 

@@ -28,3 +28,4 @@ pub mod Descent
 pub mod Trying
 pub mod Examples
 pub mod SmallHalf
+pub mod OrderedRows

@@ -5,3 +5,4 @@ pub mod Decompositions
 pub mod PairSums
 pub mod Walks
 pub mod Written
+pub mod OrderedRows

@@ -24,5 +24,6 @@ EachBlockOnce =
 abbrev pub BookHasAllSums : Type 0
 BookHasAllSums =
     (S : LinearSystem) (listed : List (List ℤ)) (e : ℕ) (pairs : List (List ℤ × List ℤ)) → AreNumbered listed e pairs
-    → (blocks passes : ℕ) (events : List Event) (s : CoreState) → length pairs ≤ 256 * blocks → Runs (core_start blocks passes) events s → s.closed ≡ true
+    → (blocks passes : ℕ) (events : List Event) (s : CoreState)
+    → length pairs ≤ 256 * blocks → Runs (core_start blocks passes) events s → s.closed ≡ true
     → (rows : List (List ℤ)) → IsSumsOf S listed pairs s.book rows → IsListOf norm_cmp (IsNewSum S listed e) rows

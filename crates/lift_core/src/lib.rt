@@ -6,10 +6,12 @@ pub mod halves;
 mod int_row;
 pub mod laws;
 mod machine;
+mod ordering;
 mod system;
 
 pub use int_row::IntRow;
 pub use machine::{Core, Event, StepEnd};
+pub use ordering::put_in_order;
 pub use system::System;
 
 /// What a system is solved for, after the commands of 4ti2.

@@ -1,5 +1,5 @@
-pub mod FileLemmas
-pub mod RowLemmas
-pub mod OrderLemmas
-pub mod WantedLemmas
-pub mod TextLemmas
+pub mod Writing
+pub mod SelectedRows
+pub mod Search
+pub mod WantedLists
+pub mod GridText

@@ -1,18 +1,12 @@
 -- The steps from the finished rows to the selected ones.
-use Rattle.std.specs.Prelude.{◌≡◌, ◌↔◌, ◌≤◌, ◌&&◌, ℕ, ℤ, pos, List, Bool, true, not, map, length, take}
-use Rattle.std.specs.Borrow.{Bor}
-use Rattle.std.specs.List.{Contains, AllByRecursion, filter, list_any}
-use Rattle.std.specs.List.Sorted.{IsStrictlySortedBy}
+use Rattle.std.specs.Prelude.{◌≡◌, ◌&&◌, ℕ, ℤ, pos, List, Bool, true, not, map, length, take}
+use Rattle.std.specs.List.{AllByRecursion, filter, list_any}
 use Rattle.std.specs.Ordering.{int_eq}
 use Rattle.std.specs.Cmp.Lexicographic.{pointwise}
 use Rattle.int_vector.specs.Range.{InRange}
 use Rattle.lift_core.specs.Stages.{last}
-use Rattle.int_vector.specs.Vectors.{lex_cmp, leads_negative, negated}
+use Rattle.int_vector.specs.Vectors.{leads_negative, negated}
 use Rattle.lift_core.specs.Columns.{Kind, Homogeneous, Inhomogeneous, Every}
-
--- the rows behind references
-abbrev pub rows_behind : List (Bor (List ℤ)) → List (List ℤ)
-rows_behind refs = map (λ r. r.now) refs
 
 -- whether the last entry is that of the kind
 abbrev pub is_of_kind : Kind → List ℤ → Bool
@@ -27,12 +21,6 @@ projected n kind rows = map (take n) (filter (is_of_kind kind) rows)
 -- each row has n entries, all in range
 abbrev pub AreRows : ℕ → List (List ℤ) → Type 0
 AreRows n rows = AllByRecursion (λ row. (length row ≡ n) × AllByRecursion InRange row) rows
-
--- the rows in lexicographic order, each once
-pub record IsOrdered (before after : List (List ℤ)) : Type 0 where
-  pub ascending : IsStrictlySortedBy lex_cmp after
-  pub members : (x : List ℤ) → Contains after x ↔ Contains before x
-  pub count : length after ≤ length before
 
 -- whether a row is among the rows
 abbrev pub is_among : List (List ℤ) → List ℤ → Bool

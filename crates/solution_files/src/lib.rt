@@ -9,4 +9,4 @@ mod output;
 mod selection;
 
 pub use output::write_grid;
-pub use selection::{Kind, lay_out, put_in_order, select};
+pub use selection::{Kind, lay_out, select};

@@ -9,10 +9,11 @@ ghost use Rattle.lift_core.specs.Stages.{last};
 ghost use Rattle.int_vector.specs.Vectors.{lex_cmp, leads_negative, negated};
 ghost use Rattle.lift_core.specs.Inside.Written.{HasX0};
 ghost use Rattle.solution_files.specs.Outputs.{kind_of, grid_of, IsSelected, IsSelection};
-ghost use Rattle.solution_files.specs.Steps.{rows_behind, projected, AreRows, IsOrdered, is_among, is_left_out, without_negatives};
+ghost use Rattle.lift_core.specs.Inside.OrderedRows.{rows_behind};
+ghost use Rattle.solution_files.specs.Steps.{projected, AreRows, is_among, is_left_out, without_negatives};
 
 use int_vector::{lead, lex};
-use lift_core::Tool;
+use lift_core::{Tool, put_in_order};
 use mat_files::Grid;
 use row_pool::RowId;
 use stage_store::Finish;
@@ -69,14 +70,6 @@ fn rows_of_kind<'a>(
         }
     }
     Ok(rows)
-}
-
-/// Sorts the rows in lexicographic order, and keeps each once.
-pub fn put_in_order(rows: &mut Vec<&[i64]>)
-    ensures { IsOrdered (rows_behind rows.old.items) (rows_behind rows.new.items) }
-{
-    rows.sort_unstable();
-    rows.dedup();
 }
 
 // Whether the first entry that is not 0 is negative.

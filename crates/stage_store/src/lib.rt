@@ -12,5 +12,5 @@ mod order;
 mod stage;
 
 pub use numbered::Hints;
-pub use order::{in_order, put_in_order};
+pub use order::in_order;
 pub use stage::{Closed, Finish, LiftEnd, Lifted, Next, PublishEnd, Stage};

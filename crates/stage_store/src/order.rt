@@ -5,8 +5,10 @@ ghost use Rattle.std.specs.List.{Contains};
 ghost use Rattle.lift_core.specs.Lists.{IsListOf};
 ghost use Rattle.int_vector.specs.Vectors.{lex_cmp};
 ghost use Rattle.row_pool.specs.Rows.{InRange};
-ghost use Rattle.stage_store.specs.Sorting.{rows_behind, IsOrdered, AreFit};
+ghost use Rattle.lift_core.specs.Inside.OrderedRows.{rows_behind};
+ghost use Rattle.stage_store.specs.Sorting.{AreFit};
 
+use lift_core::put_in_order;
 use row_pool::{Pool, RowId};
 use std::alloc::{AllocError, Global};
 
@@ -34,14 +36,6 @@ fn take_rows<'a>(rows: &mut Vec<&'a [i64]>, pool: &'a Pool) -> Result<(), AllocE
         rows.push(pool.row(RowId(i)))?;
     }
     Ok(())
-}
-
-/// Sorts the rows, and keeps each once.
-pub fn put_in_order(rows: &mut Vec<&[i64]>)
-    ensures { IsOrdered (rows_behind rows.old.items) (rows_behind rows.new.items) }
-{
-    rows.sort_unstable();
-    rows.dedup();
 }
 
 /// A pool of the rows.

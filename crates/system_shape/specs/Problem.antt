@@ -1,11 +1,11 @@
 -- The problem that the three commands solve, in the words of the field. Nothing here says how it is solved.
 --
--- A system has an unknown x of n entries, each with a sign and perhaps a cap, and rows `a x <= b`, `a x = b` or
--- `a x >= b`. It is asked for with the right sides b (c = 1), with right sides 0 (c = 0), or for both together.
--- Wanted are
--- the solutions that are minimal in the conformal order of Graver (1975), which compares x and the differences of both
--- sides of each inequality. Norm, product, order and lists: `int_vector/specs/Vectors.antt`,
--- `lift_core/specs/Lists.antt`.
+-- A system has an unknown x of n entries, each with a sign (of a file: 1, -1 or 2, which is free) and perhaps a cap,
+-- and rows `a x <= b`, `a x = b` or `a x >= b`. `zsolve` asks for it with the right sides b (c = 1) and with right
+-- sides 0 (c = 0), each in a file of its own; `hilbert` and `graver` have no right sides, and so c = 0 alone
+-- (`has_x0` in `Shape.antt`). Wanted are the solutions that are minimal in the conformal order of Graver (1975),
+-- which compares x and the differences of both sides of each inequality. Norm, product, order and lists:
+-- `int_vector/specs/Vectors.antt`, `lift_core/specs/Lists.antt`.
 use Rattle.std.specs.Prelude.{◌≡◌, ℕ, List, [], ◌∷◌, ◌++◌, ℤ, pos, ◌*ℤ◌, ◌-ℤ◌, ◌≤ℤ◌, Option, Bool, true, false, IsTrue, ⊤}
 use Rattle.std.specs.List.{AllZip, AllByRecursion}
 use Rattle.int_vector.specs.Vectors.{dot, ◌⊑◌, IsZero, lex_cmp, negated, leads_negative}
@@ -30,7 +30,8 @@ pub record UserRow : Type 0 where
   pub relation : Relation
   pub right : ℤ
 
--- the sign and the cap of each entry of x, the rows, and whether there is x0, by which the right sides are multiplied
+-- the sign and the cap of each entry of x, the rows, and whether there is x0, the factor c of the right sides: without
+-- it c is 0
 pub record UserSystem : Type 0 where
   pub signs : List ℤ
   pub caps : List (Option ℕ)
@@ -84,7 +85,8 @@ pub record IsMinimalForUser (U : UserSystem) (c : ℤ) (x : List ℤ) : Type 0 w
   pub least : (d : ℤ) (y : List ℤ) → IsUserSolution U d y → ¬ IsZero (full_vector U d y)
       → full_vector U d y ⊑ full_vector U c x → (d ≡ c) × (y ≡ x)
 
--- the values of c that are asked for: the homogeneous solutions, the inhomogeneous ones, or all
+-- the values of c that are asked for: 0, the homogeneous solutions; 1, the inhomogeneous ones; or any, which is asked
+-- only of systems without x0, where it is 0
 abbrev pub IsOfKind : Kind → ℤ → Type 0
 IsOfKind Homogeneous c = c ≡ pos 0
 IsOfKind Inhomogeneous c = c ≡ pos 1
@@ -96,7 +98,8 @@ pub record IsWrittenForUser (U : UserSystem) (kind : Kind) (x : List ℤ) : Type
   pub of_kind : IsOfKind kind times
   pub minimal : IsMinimalForUser U times x
 
--- the wanted list, in lexicographic order: the minimal homogeneous or inhomogeneous solutions, or the Hilbert basis
+-- the wanted list, in lexicographic order: the minimal homogeneous or inhomogeneous solutions. With signs 1 and -1 and
+-- without caps the homogeneous ones are the Hilbert basis
 abbrev pub IsWantedForUser : UserSystem → Kind → List (List ℤ) → Type 0
 IsWantedForUser U kind rows = IsListOf lex_cmp (IsWrittenForUser U kind) rows
 

@@ -19,7 +19,9 @@ written_all project (f ∷ fs) files = written_all project fs (written (project 
 -- one of the files is as before, empty or has a prefix of its text, those before it are whole, and those after it are as before
 abbrev pub IsCut : List ℕ → List OutputFile → Option Files → Option Files → Type 0
 IsCut project [] old new = ⊥
-IsCut project (f ∷ fs) old new = MayWrite (project ++ f.ending) f.text old new ⊎ IsCut project fs (option_map (written (project ++ f.ending) f.text) old) new
+IsCut project (f ∷ fs) old new =
+    MayWrite (project ++ f.ending) f.text old new
+    ⊎ IsCut project fs (option_map (written (project ++ f.ending) f.text) old) new
 
 -- what a run found and what it left: the files, and the bytes of standard output and standard error
 pub record Traces : Type 0 where

@@ -30,8 +30,12 @@ fn put_texts<'a, S: Sink>(
     second: &'a str,
     after: &'a str,
 ) -> Result<(), PutEnd>
-    ensures done { OnOk result (S.held sink.new ≡ append_known (S.held sink.old) (line_of program.now (before.now ∷ first.now ∷ between.now ∷ second.now ∷ after.now ∷ []))) }
-    ensures refused { OnErr result (MayPut (line_of program.now (before.now ∷ first.now ∷ between.now ∷ second.now ∷ after.now ∷ [])) (S.held sink.old) (S.held sink.new)) }
+    ensures done { OnOk result (S.held sink.new
+        ≡ append_known (S.held sink.old) (line_of program.now
+            (before.now ∷ first.now ∷ between.now ∷ second.now ∷ after.now ∷ []))) }
+    ensures refused { OnErr result (MayPut (line_of program.now
+            (before.now ∷ first.now ∷ between.now ∷ second.now ∷ after.now ∷ []))
+        (S.held sink.old) (S.held sink.new)) }
     ensures cause { HasCause (S.faults sink.old) (S.faults sink.new) result }
 {
     put_pieces(
@@ -61,8 +65,12 @@ fn put_file_texts<'a, S: Sink>(
     second: &'a str,
     after: &'a str,
 ) -> Result<(), PutEnd>
-    ensures done { OnOk result (S.held sink.new ≡ append_known (S.held sink.old) (file_line program.now project.now ending.now (before.now ∷ first.now ∷ between.now ∷ second.now ∷ after.now ∷ []))) }
-    ensures refused { OnErr result (MayPut (file_line program.now project.now ending.now (before.now ∷ first.now ∷ between.now ∷ second.now ∷ after.now ∷ [])) (S.held sink.old) (S.held sink.new)) }
+    ensures done { OnOk result (S.held sink.new
+        ≡ append_known (S.held sink.old) (file_line program.now project.now ending.now
+            (before.now ∷ first.now ∷ between.now ∷ second.now ∷ after.now ∷ []))) }
+    ensures refused { OnErr result (MayPut (file_line program.now project.now ending.now
+            (before.now ∷ first.now ∷ between.now ∷ second.now ∷ after.now ∷ []))
+        (S.held sink.old) (S.held sink.new)) }
     ensures cause { HasCause (S.faults sink.old) (S.faults sink.new) result }
 {
     put_pieces(
@@ -139,8 +147,12 @@ pub fn put_message<S: Sink>(
     file: Option<&'static str>,
     wording: &Wording,
 ) -> Result<(), PutEnd>
-    ensures done { OnOk result (S.held sink.new ≡ append_known (S.held sink.old) (message_in program.now project.now (option_map (λ e. e.now) file.entry) (words_in wording.now))) }
-    ensures refused { OnErr result (MayPut (message_in program.now project.now (option_map (λ e. e.now) file.entry) (words_in wording.now)) (S.held sink.old) (S.held sink.new)) }
+    ensures done { OnOk result (S.held sink.new
+        ≡ append_known (S.held sink.old) (message_in program.now project.now
+            (option_map (λ e. e.now) file.entry) (words_in wording.now))) }
+    ensures refused { OnErr result (MayPut (message_in program.now project.now
+            (option_map (λ e. e.now) file.entry) (words_in wording.now))
+        (S.held sink.old) (S.held sink.new)) }
     ensures cause { HasCause (S.faults sink.old) (S.faults sink.new) result }
 {
     match file {

@@ -16,8 +16,8 @@ use Rattle.system_shape.specs.Slacks.{linear_system}
 use Rattle.system_shape.specs.Problem.{UserSystem, IsWrittenForUser, IsWantedForUser, IsWantedGraverForUser}
 use Rattle.system_shape.proofs.Solutions.{written as written_for_user, same_list, same_pairs}
 use Rattle.solution_files.specs.Laws.{AreAllSolutions}
-use Rattle.solution_files.proofs.TextLemmas.{text_of-rows}
-use Rattle.solution_files.proofs.WantedLemmas.{wanted_plain, wanted_graver}
+use Rattle.solution_files.proofs.GridText.{text_of-rows}
+use Rattle.solution_files.proofs.WantedLists.{wanted_plain, wanted_graver}
 use Rattle.tool_top.specs.Inside.Writing.{IsWantedBy, AreFilesOf}
 use Rattle.std.specs.Prelude.{ℤ, IsTrue}
 use Rattle.std.specs.List.{flat_map, sum_by}

@@ -2,7 +2,8 @@ use Rattle.std.proofs.Common.{◌≡◌, ◌<◌, ◌+◌, ◌++◌, ◌∷◌, 
 use Rattle.std.specs.List.{filter}
 use Rattle.std.proofs.lemmas.List.Elements.{recursion_from_All}
 use Rattle.int_vector.specs.Range.{InRange}
-use Rattle.solution_files.specs.Steps.{rows_behind, AreRows}
+use Rattle.lift_core.specs.Inside.OrderedRows.{rows_behind}
+use Rattle.solution_files.specs.Steps.{AreRows}
 use Rattle.system_files.specs.Kernel.{rows_in}
 use Rattle.circuit_tool.specs.Inside.Supports.{is_kept}
 use Rattle.circuit_tool.proofs.Keeping.{row_pushed, row_left, shape_pushed}

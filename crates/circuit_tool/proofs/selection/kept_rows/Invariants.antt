@@ -1,6 +1,7 @@
 use Rattle.std.proofs.Common.{◌≡◌, ◌≤◌, ◌++◌, drop, length}
 use Rattle.std.specs.List.{filter}
-use Rattle.solution_files.specs.Steps.{rows_behind, AreRows}
+use Rattle.lift_core.specs.Inside.OrderedRows.{rows_behind}
+use Rattle.solution_files.specs.Steps.{AreRows}
 use Rattle.system_files.specs.Kernel.{rows_in}
 use Rattle.circuit_tool.specs.Inside.Supports.{is_kept}
 use Rattle.circuit_tool.proofs.selection.kept_rows.Given as goal

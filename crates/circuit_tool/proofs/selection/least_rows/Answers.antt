@@ -2,8 +2,9 @@ use Rattle.std.proofs.Common.{◌≡◌, ◌*◌, ◌∙◌, ap, ap₂, subst, l
 use Rattle.std.specs.List.{filter}
 use Rattle.std.proofs.lemmas.Result.{IfOk-weaker}
 use Rattle.solution_files.specs.Outputs.{grid_of}
-use Rattle.solution_files.specs.Steps.{rows_behind, AreRows}
-use Rattle.solution_files.proofs.RowLemmas.{rows_ordered}
+use Rattle.lift_core.specs.Inside.OrderedRows.{rows_behind}
+use Rattle.solution_files.specs.Steps.{AreRows}
+use Rattle.solution_files.proofs.SelectedRows.{rows_ordered}
 use Rattle.system_files.specs.Kernel.{rows_in}
 use Rattle.circuit_tool.specs.Inside.Supports.{is_kept}
 use Rattle.circuit_tool.proofs.Keeping.{rows_long, lengths_of, kept_are_least}

@@ -1,6 +1,6 @@
 use Rattle.solution_files.specs.Outputs.{kind_of}
-use Rattle.solution_files.proofs.WantedLemmas.{wanted_plain, wanted_graver}
-use Rattle.solution_files.proofs.TextLemmas.{text_of-rows}
+use Rattle.solution_files.proofs.WantedLists.{wanted_plain, wanted_graver}
+use Rattle.solution_files.proofs.GridText.{text_of-rows}
 use Rattle.solution_files.proofs.laws.selection_law.Goals as goal
 
 pub returns-clause-wanted : goal.returns-clause-wanted

@@ -1,6 +1,6 @@
 use Rattle.std.proofs.Common.{◌≡◌, ◌<◌, ◌+◌, arith, length, take, drop}
 use Rattle.std.proofs.lemmas.Result.{err_from_is_err_and}
-use Rattle.solution_files.proofs.FileLemmas.{row_fits, rest_fits, one_line_more, one_line_refused, no_line_more}
+use Rattle.solution_files.proofs.Writing.{row_fits, rest_fits, one_line_more, one_line_refused, no_line_more}
 use Rattle.solution_files.proofs.output.append_rows.Goals as goal
 
 pub split_at-requires : goal.split_at-requires

@@ -1,7 +1,7 @@
 use Rattle.std.proofs.Common.{rules, ap, ◌∙◌, pos}
 use Rattle.std.proofs.lemmas.Result.{err_from_is_err_and}
 use Rattle.mat_files.specs.Printed.{text_of}
-use Rattle.solution_files.proofs.FileLemmas.{head_line, head_written, head_refused}
+use Rattle.solution_files.proofs.Writing.{head_line, head_written, head_refused}
 use Rattle.solution_files.proofs.output.write_grid.Goals as goal
 
 pub returns-in_err-append_line-clause-refused : goal.returns-in_err-append_line-clause-refused

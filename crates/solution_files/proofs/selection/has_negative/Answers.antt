@@ -1,7 +1,8 @@
 use Rattle.std.proofs.Common.{rules, ap, ◌∙◌}
 use Rattle.int_vector.specs.Vectors.{lex_cmp}
-use Rattle.solution_files.specs.Steps.{rows_behind, is_among}
-use Rattle.solution_files.proofs.OrderLemmas.{found_is_among, answers_alike}
+use Rattle.lift_core.specs.Inside.OrderedRows.{rows_behind}
+use Rattle.solution_files.specs.Steps.{is_among}
+use Rattle.solution_files.proofs.Search.{found_is_among, answers_alike}
 use Rattle.solution_files.proofs.selection.has_negative.Goals as goal
 
 pub returns : goal.returns

@@ -1,7 +1,7 @@
 use Rattle.std.proofs.Common.{length, sym}
 use Rattle.std.proofs.lemmas.List.{length-map}
-use Rattle.solution_files.specs.Steps.{rows_behind}
-use Rattle.solution_files.proofs.RowLemmas.{rows_matrix, all_laid}
+use Rattle.lift_core.specs.Inside.OrderedRows.{rows_behind}
+use Rattle.solution_files.proofs.SelectedRows.{rows_matrix, all_laid}
 use Rattle.solution_files.proofs.selection.lay_out.Goals as goal
 
 pub invariant_of-result : goal.invariant_of-result

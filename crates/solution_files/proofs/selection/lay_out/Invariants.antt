@@ -1,6 +1,6 @@
 use Rattle.std.proofs.Common.{◌≡◌, ◌++◌, drop}
 use Rattle.std.specs.List.{flat_map}
-use Rattle.solution_files.specs.Steps.{rows_behind}
+use Rattle.lift_core.specs.Inside.OrderedRows.{rows_behind}
 use Rattle.solution_files.proofs.selection.lay_out.Given as goal
 
 abbrev pub invariant-loop-row : goal.invariant-loop-row

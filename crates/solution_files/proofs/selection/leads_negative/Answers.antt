@@ -1,6 +1,6 @@
 use Rattle.std.proofs.Common.{rules, ap, ◌∙◌, pos, SFits, w8, to_z-of_z}
 use Rattle.std.specs.Prelude.{int_lt}
-use Rattle.solution_files.proofs.RowLemmas.{leading_sign}
+use Rattle.solution_files.proofs.SelectedRows.{leading_sign}
 use Rattle.solution_files.proofs.selection.leads_negative.Goals as goal
 
 pub returns : goal.returns

@@ -2,7 +2,7 @@ use Rattle.std.proofs.Common.{rules, ◌≡◌, ◌+◌, ◌++◌, [], ◌∷◌
 use Rattle.std.specs.Prelude.{neg_ℤ}
 use Rattle.int_vector.specs.Range.{InRange}
 use Rattle.int_vector.specs.Vectors.{negated}
-use Rattle.solution_files.proofs.RowLemmas.{one_more_negated, each_at}
+use Rattle.solution_files.proofs.SelectedRows.{one_more_negated, each_at}
 use Rattle.solution_files.proofs.selection.negative_of.Goals as goal
 
 pub negative_entry-requires : goal.negative_entry-requires

@@ -3,8 +3,9 @@ use Rattle.int_vector.specs.Range.{InRange}
 use Rattle.lift_core.specs.Inside.Written.{HasX0}
 use Rattle.std.proofs.lemmas.List.Elements.{recursion_from_All}
 use Rattle.solution_files.specs.Outputs.{kind_of}
-use Rattle.solution_files.specs.Steps.{projected, rows_behind, AreRows}
-use Rattle.solution_files.proofs.RowLemmas.{one_more_taken, one_more_passed, rows_taken}
+use Rattle.lift_core.specs.Inside.OrderedRows.{rows_behind}
+use Rattle.solution_files.specs.Steps.{projected, AreRows}
+use Rattle.solution_files.proofs.SelectedRows.{one_more_taken, one_more_passed, rows_taken}
 use Rattle.solution_files.proofs.selection.rows_of_kind.Goals as goal
 use Rattle.solution_files.proofs.selection.rows_of_kind.Goals.{then-is_of_kind+in_ok-push, else-is_of_kind}
 

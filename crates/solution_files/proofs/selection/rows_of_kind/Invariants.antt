@@ -1,6 +1,7 @@
 use Rattle.std.proofs.Common.{◌≡◌, ◌≤◌, ◌++◌, drop, length}
 use Rattle.solution_files.specs.Outputs.{kind_of}
-use Rattle.solution_files.specs.Steps.{rows_behind, projected, AreRows}
+use Rattle.lift_core.specs.Inside.OrderedRows.{rows_behind}
+use Rattle.solution_files.specs.Steps.{projected, AreRows}
 use Rattle.solution_files.proofs.selection.rows_of_kind.Given as goal
 
 abbrev pub invariant-loop-place : goal.invariant-loop-place

@@ -3,8 +3,9 @@ use Rattle.std.proofs.lemmas.List.{length-map}
 use Rattle.std.proofs.lemmas.Result.{IfOk-weaker}
 use Rattle.lift_core.specs.declared.Tool.TheVariants.{Graver, Hilbert, Zsolve}
 use Rattle.solution_files.specs.Outputs.{kind_of}
-use Rattle.solution_files.specs.Steps.{rows_behind, AreRows, IsOrdered, projected, without_negatives}
-use Rattle.solution_files.proofs.RowLemmas.{selected_plain, selected_graver, rows_small, rows_ordered, rows_kept}
+use Rattle.lift_core.specs.Inside.OrderedRows.{rows_behind, IsOrdered}
+use Rattle.solution_files.specs.Steps.{AreRows, projected, without_negatives}
+use Rattle.solution_files.proofs.SelectedRows.{selected_plain, selected_graver, rows_small, rows_ordered, rows_kept}
 use Rattle.solution_files.proofs.selection.selected_rows.Goals as goal
 
 pub without_negatives-requires-clause-range : goal.without_negatives-requires-clause-range

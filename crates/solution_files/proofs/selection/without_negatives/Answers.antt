@@ -1,8 +1,9 @@
 use Rattle.std.proofs.Common.{◌≡◌, ◌+◌, ◌++◌, [], ◌∷◌, List, length, get_or, sym, ap, ◌∙◌, arith, Bor, ℤ, length-append, refl, false, drop}
 use Rattle.std.specs.List.{AllByRecursion, filter}
 use Rattle.int_vector.specs.Range.{InRange}
-use Rattle.solution_files.specs.Steps.{rows_behind, is_left_out, without_negatives}
-use Rattle.solution_files.proofs.RowLemmas.{stays, one_more_kept, one_more_left, each_behind}
+use Rattle.lift_core.specs.Inside.OrderedRows.{rows_behind}
+use Rattle.solution_files.specs.Steps.{is_left_out, without_negatives}
+use Rattle.solution_files.proofs.SelectedRows.{stays, one_more_kept, one_more_left, each_behind}
 use Rattle.solution_files.proofs.selection.without_negatives.Goals as goal
 use Rattle.solution_files.proofs.selection.without_negatives.Goals.{then-not-branch+in_ok-push, else-not-branch}
 

@@ -1,7 +1,8 @@
 use Rattle.std.proofs.Common.{◌≡◌, ◌≤◌, ◌++◌, drop, length}
 use Rattle.std.specs.List.{filter}
-use Rattle.solution_files.specs.Steps.{rows_behind, without_negatives}
-use Rattle.solution_files.proofs.RowLemmas.{stays}
+use Rattle.lift_core.specs.Inside.OrderedRows.{rows_behind}
+use Rattle.solution_files.specs.Steps.{without_negatives}
+use Rattle.solution_files.proofs.SelectedRows.{stays}
 use Rattle.solution_files.proofs.selection.without_negatives.Given as goal
 
 abbrev pub invariant-loop-row : goal.invariant-loop-row

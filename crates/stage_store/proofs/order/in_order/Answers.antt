@@ -1,6 +1,6 @@
 use Rattle.std.proofs.Common.{◌∙◌, ◌++◌, ap, sym, subst}
 use Rattle.std.specs.List.{Contains}
-use Rattle.stage_store.specs.Sorting.{rows_behind}
+use Rattle.lift_core.specs.Inside.OrderedRows.{rows_behind}
 use Rattle.stage_store.proofs.Sorting.{ordered_pool}
 use Rattle.stage_store.proofs.order.in_order.Goals as goal
 

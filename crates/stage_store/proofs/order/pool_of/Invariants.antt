@@ -1,5 +1,5 @@
 use Rattle.std.proofs.Common.{◌≡◌, ◌≤◌, ◌+◌, take, length}
-use Rattle.stage_store.specs.Sorting.{rows_behind}
+use Rattle.lift_core.specs.Inside.OrderedRows.{rows_behind}
 use Rattle.stage_store.proofs.order.pool_of.Given as goal
 
 abbrev pub invariant-loop-row : goal.invariant-loop-row

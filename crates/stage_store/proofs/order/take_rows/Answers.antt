@@ -1,7 +1,7 @@
 use Rattle.std.proofs.Common.{◌∙◌, sym, ap, subst, length, ℤ, List, [], arith, All}
 use Rattle.row_pool.specs.Rows.{InRange}
 use Rattle.std.specs.Prelude.{slice_index_or}
-use Rattle.stage_store.specs.Sorting.{rows_behind}
+use Rattle.lift_core.specs.Inside.OrderedRows.{rows_behind}
 use Rattle.stage_store.proofs.Sorting.{pushed_behind, one_row_more, one_fit_more}
 use Rattle.stage_store.proofs.order.take_rows.Goals as goal
 

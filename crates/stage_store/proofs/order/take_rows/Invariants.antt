@@ -1,5 +1,6 @@
 use Rattle.std.proofs.Common.{◌≡◌, ◌++◌, take}
-use Rattle.stage_store.specs.Sorting.{rows_behind, AreFit}
+use Rattle.lift_core.specs.Inside.OrderedRows.{rows_behind}
+use Rattle.stage_store.specs.Sorting.{AreFit}
 use Rattle.stage_store.proofs.order.take_rows.Given as goal
 
 abbrev pub invariant-loop-i : goal.invariant-loop-i

@@ -1,7 +1,7 @@
 use Rattle.std.proofs.Common.{arith}
 use Rattle.std.proofs.lemmas.List.Filters.{dedup_is}
-use Rattle.stage_store.proofs.Sorting.{rows_kept_once}
-use Rattle.stage_store.proofs.order.put_in_order.Goals as goal
+use Rattle.lift_core.proofs.OrderedRows.{rows_kept_once}
+use Rattle.lift_core.proofs.ordering.put_in_order.Goals as goal
 
 pub returns : goal.returns
 returns c =

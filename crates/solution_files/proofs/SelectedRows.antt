@@ -23,7 +23,8 @@ use Rattle.lift_core.specs.Inside.Written.{HasX0}
 use Rattle.lift_core.proofs.Lists.{each_contained, each_from_contained}
 use Rattle.lift_core.proofs.Orders.{in_filter, from_filter, in_map, from_map}
 use Rattle.solution_files.specs.Outputs.{IsProjected, IsTaken}
-use Rattle.solution_files.specs.Steps.{rows_behind, is_of_kind, projected, AreRows, IsOrdered, is_among, is_left_out, without_negatives}
+use Rattle.lift_core.specs.Inside.OrderedRows.{rows_behind, IsOrdered}
+use Rattle.solution_files.specs.Steps.{is_of_kind, projected, AreRows, is_among, is_left_out, without_negatives}
 
 -- ---- the rows of a kind
 home_of_kind : (kind : Kind) (v : List ℤ) → is_of_kind kind v ≡ true → HasX0 kind v
