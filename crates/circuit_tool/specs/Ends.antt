@@ -138,7 +138,7 @@ EndsWith project sets t (Err Usage) = ⊥
 EndsWith project sets t (Err (File f fault)) = ⊥
 EndsWith project sets t (Err (Shape rows cols)) = ⊥
 
--- the end is the one that the words and the files decide, and this is what stands then; a device's fault and want of memory come by themselves
+-- the end is the one that the words and the files decide, and this is what stands then; a device's fault and running out of memory come by themselves
 abbrev pub Ends : Result Plan Stop → Traces → Result ℕ Stop → Type 0
 Ends plan t (Ok circuits) = (p : Plan) × (plan ≡ Ok p) × IsDone p.project p.sets t circuits
 Ends plan t (Err (NotKernel row)) = (p : Plan) × (plan ≡ Ok p) × FirstOutside (rows_in p.sets.mat) (rows_in p.sets.set) (Some row) × IsUntouched t

@@ -1,4 +1,5 @@
-// How a run ends.
+//! How a run ends.
+
 ghost use Rattle.std.specs.Prelude.{◌≡◌};
 ghost use Rattle.circuit_tool.specs.Ends.{code_of, end_of};
 ghost use Rattle.circuit_tool.specs.Endings.{ending};
@@ -48,7 +49,7 @@ pub enum CirEnd {
 /// The exit status of the program, and the end behind it.
 #[derive(Clone, Copy, Debug, PartialEq, Eq)]
 pub struct CirStatus {
-    /// 0 where all is done, 1 for wrong words, 2 for a fault of the input, 5 for a device's fault, 6 for want of memory.
+    /// 0 where all is done, 1 for wrong words, 2 for a fault of the input, 5 for a device's fault, 6 where memory ran out.
     pub code: u8,
     pub end: CirEnd,
 }

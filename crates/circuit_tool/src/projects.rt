@@ -1,4 +1,5 @@
-// The words of the command.
+//! The words of the command.
+
 ghost use Rattle.std.specs.Prelude.{◌≡◌, [], unwrap_or};
 ghost use Rattle.std.specs.Option.{option_map};
 ghost use Rattle.circuit_tool.specs.Sets.{project_in};

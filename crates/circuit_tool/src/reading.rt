@@ -1,4 +1,5 @@
-// Reading the matrix and the set.
+//! Reading the matrix and the set.
+
 ghost use Rattle.std.specs.Prelude.{◌≡◌, ◌≤◌, ◌++◌, IfOk, IfSome, Err};
 ghost use Rattle.std.specs.FinMap.{get};
 ghost use Rattle.system_files.specs.Files.{grid_in};

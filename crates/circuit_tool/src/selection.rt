@@ -1,4 +1,5 @@
-// The rows of least support.
+//! The rows of least support.
+
 ghost use Rattle.std.specs.Prelude.{◌≡◌, ◌≤◌, ◌<◌, ◌^◌, List, ℤ, length, IfOk};
 ghost use Rattle.std.specs.List.{AllByRecursion, filter};
 ghost use Rattle.solution_files.specs.Outputs.{grid_of};

@@ -1,4 +1,5 @@
-// Supports as words of 64 bits: a bit for each column, which is set where the vector is not 0.
+//! Supports as words of 64 bits: a bit for each column, which is set where the vector is not 0.
+
 ghost use Rattle.std.specs.Prelude.{◌≡◌, ◌↔◌, ◌≤◌, ℕ, [], length, IfOk, Contains};
 ghost use Rattle.std.specs.List.{list_any};
 ghost use Rattle.system_files.specs.Kernel.{rows_in};

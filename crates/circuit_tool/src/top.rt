@@ -1,4 +1,5 @@
-// The run of the tool.
+//! The run of the tool.
+
 ghost use Rattle.std.specs.Prelude.{◌≡◌, ◌↔◌, ◌≤◌, ◌⊎◌, ℕ, [], None, Result, Err, IfSome, OnOk, OnErr, unwrap_or};
 ghost use Rattle.std.specs.Io.KnownBytes.{append_known};
 ghost use Rattle.outside.specs.Causes.{Rose};

@@ -61,7 +61,7 @@ Steps s e t (Ok u) = IsAllowed s e × (t ≡ after s e)
 Steps s e t (Err NotAllowed) = (IsAllowed s e → ⊥) × (t ≡ s)
 Steps s e t (Err Memory) = t ≡ s
 
--- the event is not allowed; want of memory tells nothing of it
+-- the event is not allowed; running out of memory tells nothing of it
 abbrev pub IsRefused : CoreState → Event → StepEnd → Type 0
 IsRefused s e NotAllowed = IsAllowed s e → ⊥
 IsRefused s e Memory = Unit {0}

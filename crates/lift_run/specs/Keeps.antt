@@ -71,7 +71,7 @@ pub record BreaksOff {X : Type 0} (after : X → StageValue → X) (torn : X →
   pub leads : Leads limits s closed final
   pub stands : MayStand after torn limits final closed old new
 
--- by the end that is named; want of memory and a failed Keep name none
+-- by the end that is named; running out of memory and a failed Keep name none
 abbrev pub TellsTo : {X : Type 0} → (X → StageValue → X) → (X → StageValue → X → Type 0) → Bounds → StageValue → Option End → Option X → Option X → Type 0
 TellsTo after torn limits s named old new = MatchOption named (BreaksOff after torn limits s old new) (λ end. ComesTo after limits s end old new)
 

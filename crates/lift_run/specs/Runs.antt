@@ -17,7 +17,7 @@ use Rattle.lift_run.specs.declared.ends.RunEnd.TheVariants.{Overflow, Pairs, Row
 abbrev pub bounds : Limits → Bounds
 bounds l = record { pairs = l.pairs; rows = l.rows }
 
--- the end that is named; a failed Keep and want of memory name none
+-- the end that is named; a failed Keep and running out of memory name none
 abbrev pub end_of_error : RunEnd → Option End
 end_of_error (Overflow k (Row v)) = Some (row_overflow k v)
 end_of_error (Overflow k (Norm e)) = Some (norm_overflow k e)

@@ -4,7 +4,7 @@ use Rattle.outside.specs.declared.ends.PutEnd.TheVariants.{Failed, Memory}
 use Rattle.outside.specs.declared.ends.ReadEnd.{ReadEnd}
 use Rattle.outside.specs.declared.ends.ReadEnd.TheVariants as read
 
--- a failure stays a failure, and want of memory stays want of memory
+-- a failure stays a failure, and running out of memory stays running out of memory
 abbrev pub read_end : PutEnd → ReadEnd
 read_end Failed = read.Failed
 read_end Memory = read.Memory

@@ -11,7 +11,7 @@ use std::marker::Model;
 use std::rt::Files;
 use std::{fs, io};
 
-// The refusal for what the machine said. A failure is counted, and want of memory is none.
+// The refusal for what the machine said. A failure is counted, and running out of memory is none.
 fn counted(kind: ErrorKind, faults: &mut u64) -> PutEnd
     ensures later { faults.old ≤ faults.new }
     ensures failed { result ≡ PutEnd.Failed → Rose faults.old faults.new }

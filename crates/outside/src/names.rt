@@ -1,4 +1,5 @@
-// The names of projects.
+//! The names of projects.
+
 ghost use Rattle.std.specs.Prelude.{◌≡◌, ◌==◌, not};
 ghost use Rattle.std.specs.List.{list_all};
 ghost use Rattle.outside.specs.Names.{is_name};

@@ -1,4 +1,5 @@
-// Putting a text piece by piece.
+//! Putting a text piece by piece.
+
 ghost use Rattle.std.specs.Prelude.{◌≡◌, OnOk, OnErr};
 ghost use Rattle.std.specs.Io.KnownBytes.{append_known};
 ghost use Rattle.outside.specs.Causes.{HasCause};

@@ -191,7 +191,7 @@ impl Folder for SureFolder {
         }
     }
 
-    /// As of every folder. Only want of memory refuses it, and then all files are as before.
+    /// As of every folder. Only a lack of memory refuses it, and then all files are as before.
     fn begin(&mut self, name: &str) -> Result<(), PutEnd>
         ensures done { OnOk result (self.new ≡ begun name.now self.old) }
         ensures refused { OnErr result (self.new ≡ self.old) }
@@ -202,7 +202,7 @@ impl Folder for SureFolder {
         Ok(())
     }
 
-    /// As of every folder. Only want of memory refuses it, and then all files are as before.
+    /// As of every folder. Only a lack of memory refuses it, and then all files are as before.
     fn append(&mut self, name: &str, bytes: &[u8]) -> Result<(), PutEnd>
         ensures done { OnOk result (self.new ≡ appended name.now bytes.now self.old) }
         ensures refused { OnErr result (self.new ≡ self.old) }
@@ -259,7 +259,7 @@ impl Sink for SureSink {
 
     ghost faults = { λ _. 0 };
 
-    /// As of every sink. Only want of memory refuses it, and then the bytes are as before.
+    /// As of every sink. Only a lack of memory refuses it, and then the bytes are as before.
     fn put(&mut self, bytes: &[u8]) -> Result<(), PutEnd>
         ensures done { OnOk result (self.new ≡ self.old ++ bytes.now) }
         ensures refused { OnErr result (self.new ≡ self.old) }

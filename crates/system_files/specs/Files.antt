@@ -51,7 +51,7 @@ abbrev pub grid_in : ℕ → ℕ → ℕ → Option (List ℕ) → Result Matrix
 grid_in limit rows cols file = optional_grid_in limit rows cols file >>= needed
 
 -- ---- answers
--- the answer, seen by view, is what the file says; a failure and want of memory come by themselves
+-- the answer, seen by view, is what the file says; a failure and running out of memory come by themselves
 abbrev pub ReadsBy : {X A : Type 0} → (X → A) → Result X FileEnd → Result A FileFault → Type 0
 ReadsBy view (Ok x) expected = expected ≡ Ok (view x)
 ReadsBy view (Err (Bad fault)) expected = expected ≡ Err fault

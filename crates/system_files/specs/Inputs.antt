@@ -76,7 +76,7 @@ placed source (Err (file.Bad fault)) = Err (stop.Bad (File source fault))
 placed source (Err file.Failed) = Err (stop.Failed source)
 placed source (Err file.Memory) = Err stop.Memory
 
--- the answer, seen by view, is what the files say; a failure and want of memory come by themselves
+-- the answer, seen by view, is what the files say; a failure and running out of memory come by themselves
 abbrev pub FindsBy : {X A : Type 0} → (X → A) → Result X InputStop → Result A InputFault → Type 0
 FindsBy view (Ok x) expected = expected ≡ Ok (view x)
 FindsBy view (Err (stop.Bad fault)) expected = expected ≡ Err fault

@@ -1,4 +1,5 @@
-// What is wrong with a file, and with a project's files.
+//! What is wrong with a file, and with a project's files.
+
 ghost use Rattle.std.specs.Prelude.{◌≡◌};
 ghost use Rattle.system_files.specs.Ends.{text_end, read_end, shape_end, input_end};
 ghost use Rattle.system_files.specs.declared.faults.FileEnd.TheVariants as file;

@@ -1,4 +1,5 @@
-// Which rows are in the kernel of a matrix.
+//! Which rows are in the kernel of a matrix.
+
 ghost use Rattle.std.specs.Prelude.{◌≡◌, ◌≤◌, ◌↔◌, ◌<◌, length, IsTrue};
 ghost use Rattle.system_files.specs.Kernel.{rows_in, IsKernelRow, FirstOutside};
 

@@ -1,4 +1,5 @@
-// The rows of a matrix.
+//! The rows of a matrix.
+
 ghost use Rattle.std.specs.Prelude.{◌≡◌, ◌<◌, ◌^◌, [], length, All, slice_index_or};
 ghost use Rattle.int_vector.specs.Range.{InRange};
 ghost use Rattle.system_files.specs.Kernel.{rows_in};

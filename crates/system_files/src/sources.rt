@@ -1,4 +1,5 @@
-// The input files of a project, by their endings.
+//! The input files of a project, by their endings.
+
 ghost use Rattle.std.specs.Prelude.{◌≡◌};
 ghost use Rattle.system_files.specs.Sources.{ending};
 

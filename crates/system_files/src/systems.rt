@@ -1,4 +1,5 @@
-// Reading the system of a project.
+//! Reading the system of a project.
+
 ghost use Rattle.std.specs.Prelude.{◌≡◌, ◌≤◌, [], ◌∷◌, IfOk, IfSome, Err};
 ghost use Rattle.std.specs.FinMap.{get};
 ghost use Rattle.lift_core.specs.Systems.{ToolSystem};

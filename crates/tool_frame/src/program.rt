@@ -1,4 +1,4 @@
-// What the programs share: the machine's words and streams.
+//! What the programs share: the machine's words and streams.
 
 use outside::Words;
 use std::alloc::{AllocError, Global};
@@ -28,7 +28,7 @@ impl Session {
     /// are for reading alone, so a put fails.
     ///
     /// # Errors
-    /// The exit status: 1 where a word is no UTF-8 text, and 6 for want of memory.
+    /// The exit status: 1 where a word is no UTF-8 text, and 6 where memory ran out.
     pub fn open(rt: &HostRuntime) -> Result<Session, ExitCode> {
         let held = [
             File::open(rt, NOTHING),

@@ -1,4 +1,5 @@
-// What a line on standard error says.
+//! What a line on standard error says.
+
 ghost use Rattle.std.specs.Prelude.{◌≡◌, [], codes};
 ghost use Rattle.tool_frame.specs.Wordings.{words_in, plain, with_number, with_numbers, text_fault_text, fault_text, shape_text};
 

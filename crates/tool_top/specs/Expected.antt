@@ -43,7 +43,7 @@ abbrev pub IsExpected : Result Plan End → End → Type 0
 IsExpected (Ok plan) end = PlanComesTo plan end
 IsExpected (Err answer) end = end ≡ answer
 
--- the expected end; a device's fault and want of memory come by themselves
+-- the expected end; a device's fault and running out of memory come by themselves
 abbrev pub ComesTo : Result Plan End → End → Type 0
 ComesTo plan (Outside part) = Unit {0}
 ComesTo plan Memory = Unit {0}

@@ -66,7 +66,7 @@ LeavesCut plan t Zinhom = IsOkAnd plan (λ p. IsCutInFile p t Zinhom)
 LeavesCut plan t Out = IsOkAnd plan (λ p. IsCutInSummary p t)
 LeavesCut plan t part = IsUntouched t
 
--- what stands at an end; want of memory leaves what the fault of some part leaves
+-- what stands at an end; running out of memory leaves what the fault of some part leaves
 abbrev pub Leaves : Result Plan End → Traces → End → Type 0
 Leaves plan t (Done solutions pairs norms) = IsOkAnd plan (λ p. IsConcluded p t solutions pairs norms)
 Leaves plan t (Outside part) = LeavesCut plan t part

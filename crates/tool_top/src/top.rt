@@ -272,12 +272,12 @@ pub fn run_tool<F: Folder, O: Sink, E: Sink>(
     ensures written { IfSome (F.held folder.old) (λ files.
         OnDone result.end (IsOkAnd (planned tool words.now files) (λ plan. HasWritten plan files (F.held folder.new)))) }
 
-    // Where no device failed, the end is the one that the words and the files decide, or want of memory.
+    // Where no device failed, the end is the one that the words and the files decide, or memory ran out.
     ensures headline { IfSome (F.held folder.old) (λ files.
         (Rose (F.faults folder.old) (F.faults folder.new) → ⊥) → (Rose (O.faults out.old) (O.faults out.new) → ⊥)
         → IsExpected (planned tool words.now files) result.end ⊎ (result.end ≡ End.Memory)) }
 
-    // Whether or not a device failed, each end but a device's fault and want of memory is that one.
+    // Whether or not a device failed, each end but a device's fault and running out of memory is that one.
     ensures expected { IfSome (F.held folder.old) (λ files. ComesTo (planned tool words.now files) result.end) }
 
     // What then stands in the folder and on standard output.

@@ -4,7 +4,7 @@ ghost use Rattle.std.specs.Prelude.{◌≡◌, false};
 
 use norm_board::{Pass, Share};
 
-/// A worker's pass and share, and whether it ended for want of memory.
+/// A worker's pass and share, and whether it ran out of memory.
 #[derive(Drop)]
 pub(crate) struct Worker<'s> {
     pub(crate) pass: Pass,

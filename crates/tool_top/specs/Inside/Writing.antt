@@ -47,7 +47,7 @@ output_of o =
 abbrev pub outputs_of : Outputs → List OutputFile
 outputs_of o = map output_of o.list.items
 
--- the writing of the outputs was cut at some file, by a fault of it or by want of memory
+-- the writing of the outputs was cut at some file, by a fault of it or by running out of memory
 abbrev pub CutsTo : List ℕ → List OutputFile → Option Files → Option Files → End → Type 0
 CutsTo project outputs old new (Outside part) = IsCutAt project outputs part old new
 CutsTo project outputs old new Memory = (part : Part) × IsCutAt project outputs part old new

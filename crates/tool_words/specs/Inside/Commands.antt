@@ -72,7 +72,7 @@ MakesJob texts (Ok job) = job_of_texts texts ≡ Some job
 MakesJob texts (Err Usage) = job_of_texts texts ≡ None
 MakesJob texts (Err Memory) = Unit {0}
 
--- want of memory, or usage
+-- running out of memory, or usage
 pub record EndsBy (k : ErrorKind) (end : WordEnd) : Type 0 where
   pub memory : k ≡ kind.OutOfMemory → end ≡ Memory
   pub usage : k ≢ kind.OutOfMemory → end ≡ Usage
