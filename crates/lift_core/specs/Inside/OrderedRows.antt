@@ -1,5 +1,5 @@
 -- Rows behind references, put in lexicographic order.
-use Rattle.std.specs.Prelude.{◌≡◌, ◌↔◌, ◌≤◌, ℤ, List, map, length}
+use Rattle.std.specs.Prelude.{◌↔◌, ◌≤◌, ℤ, List, map, length}
 use Rattle.std.specs.Borrow.{Bor}
 use Rattle.std.specs.List.{Contains}
 use Rattle.std.specs.List.Sorted.{IsStrictlySortedBy}
