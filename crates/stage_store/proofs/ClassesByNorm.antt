@@ -1,17 +1,17 @@
 -- The classes of ascending rows, norm by norm: the rows before a place where a norm begins have whole classes.
-use Rattle.std.proofs.Common.{◌≡◌, ℕ, ◌+◌, ◌-◌, ◌≤◌, ◌<◌, List, [], ◌++◌, length, get_or, take, drop, refl, ap, sym, ◌∙◌, subst, subst₂, arith, inl, inr, Bool}
+use Rattle.std.proofs.Common.{◌≡◌, ℕ, ◌-◌, ◌≤◌, ◌<◌, List, [], ◌++◌, length, take, drop, refl, ap, sym, ◌∙◌, subst₂, arith, inl, inr, Bool}
 use Rattle.std.specs.Prelude.{ℤ}
-use Rattle.std.specs.List.{Contains, AllByRecursion}
+use Rattle.std.specs.List.{AllByRecursion}
 use Rattle.std.specs.List.Sorted.{IsStrictlySortedBy}
 use Rattle.std.proofs.lemmas.Bool.{cases_lt}
-use Rattle.std.proofs.lemmas.List.{take-take, take-append-drop, take_all, length-take-le, get_or-take}
+use Rattle.std.proofs.lemmas.List.{take-take, take-append-drop, length-take-le, get_or-take}
 use Rattle.lift_core.specs.Stages.{stage_norm, norm_cmp}
 use Rattle.lift_core.proofs.Lists.{each_from_contained}
-use Rattle.stage_store.specs.Classes.{ClassValue, AreClasses, class_cmp, places, with_class, row_at}
+use Rattle.stage_store.specs.Classes.{ClassValue, AreClasses, places, with_class, row_at}
 use Rattle.stage_store.proofs.Classes.{each_at}
 use Rattle.stage_store.proofs.Onward.{class_below}
 use Rattle.stage_store.proofs.Publish.{more_classes}
-use Rattle.stage_store.proofs.Reaches.{norms_ascend, place_in_front, place_behind}
+use Rattle.stage_store.proofs.CountedPairs.{norms_ascend, place_in_front, place_behind}
 
 -- the rows before the place have these classes, and a norm below that of the row at the place
 pub record AreClassesBefore (listed : List (List ℤ)) (test : List ℤ → Bool) (place : ℕ) (classes : List ClassValue) : Type 0 where

@@ -1,14 +1,12 @@
 -- The rows of a finish are solutions of all equations, and not zero, as those of the stage before it solve its equation.
-use Rattle.std.proofs.Common.{◌≡◌, ℕ, ◌≤◌, ◌<◌, List, length, sym, ap, subst, subst₂, arith}
+use Rattle.std.proofs.Common.{◌≡◌, ℕ, ◌<◌, List, length, sym, subst, subst₂, arith}
 use Rattle.std.specs.Prelude.{ℤ, Result, Ok, Err, IfOk}
 use Rattle.std.specs.List.{AllByRecursion}
 use Rattle.int_vector.specs.Vectors.{norm}
 use Rattle.lift_core.specs.Systems.{ToolSystem, Solves}
-use Rattle.lift_core.specs.Inside.Walks.{solutions_in}
 use Rattle.stage_store.specs.Stage.{StageValue, IsStage}
-use Rattle.stage_store.specs.Lifted.{IsLift, IsFinish}
-use Rattle.stage_store.specs.Sound.{IsSound, HasSolutions}
-use Rattle.stage_store.specs.declared.stage.Finish.{Finish}
+use Rattle.stage_store.specs.Lifted.{IsLift}
+use Rattle.stage_store.specs.Sound.{IsSound}
 use Rattle.stage_store.specs.declared.stage.Lifted.{Lifted}
 use Rattle.stage_store.specs.declared.stage.Lifted.TheVariants.{Next, Last}
 use Rattle.stage_store.specs.declared.stage.LiftEnd.{LiftEnd}

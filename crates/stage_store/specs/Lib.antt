@@ -20,6 +20,6 @@ pub mod Published
 pub mod Found
 pub mod Numbered
 pub mod Sorting
-pub mod Reaches
+pub mod CountedPairs
 pub mod Rebuilt
 pub mod Sound

@@ -1,5 +1,5 @@
 -- What is true of the rows of a finish, whatever the lists of its stage were.
-use Rattle.std.specs.Prelude.{ℕ, ◌<◌, List, ℤ, length}
+use Rattle.std.specs.Prelude.{◌<◌, length}
 use Rattle.std.specs.List.{AllByRecursion}
 use Rattle.int_vector.specs.Vectors.{norm}
 use Rattle.lift_core.specs.Systems.{Solves}

@@ -4,7 +4,7 @@ ghost use Rattle.std.specs.Prelude.{◌≡◌, ◌<◌, ◌≤◌, ◌^◌, ℕ,
 ghost use Rattle.std.specs.List.{AllByRecursion};
 ghost use Rattle.std.specs.List.Sorted.{IsStrictlySortedBy};
 ghost use Rattle.lift_core.specs.Stages.{stage_norm, norm_cmp, pairs_within};
-ghost use Rattle.stage_store.specs.Reaches.{IsWithinReach, IsBeyondReach};
+ghost use Rattle.stage_store.specs.CountedPairs.{IsWithinReach, IsBeyondReach};
 
 use crate::growing::has_sign;
 use int_vector::norm;

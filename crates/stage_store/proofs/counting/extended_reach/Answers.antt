@@ -1,5 +1,5 @@
 use Rattle.std.proofs.Common.{arith}
-use Rattle.stage_store.proofs.Reaches.{beyond_from}
+use Rattle.stage_store.proofs.CountedPairs.{beyond_from}
 use Rattle.stage_store.proofs.counting.extended_reach.Goals as goal
 
 pub returns-then-first-norm_at-clause-beyond : goal.returns-then-first-norm_at-clause-beyond

@@ -1,5 +1,4 @@
-use Rattle.std.proofs.Common.{◌≤◌, ◌+◌}
-use Rattle.stage_store.specs.Reaches.{IsWithinReach}
+use Rattle.stage_store.specs.CountedPairs.{IsWithinReach}
 use Rattle.stage_store.proofs.counting.extended_reach.Given as goal
 
 abbrev pub invariant-loop-end : goal.invariant-loop-end

@@ -1,4 +1,4 @@
-use Rattle.std.proofs.Common.{◌≡◌, ℕ, ◌+◌, ◌-◌, ◌≤◌, length, take, [], ap, arith}
+use Rattle.std.proofs.Common.{◌≡◌, ◌+◌, ◌-◌, ◌≤◌, length, take, [], ap, arith}
 use Rattle.int_vector.specs.Vectors.{norm}
 use Rattle.lift_core.specs.Stages.{stage_norm}
 use Rattle.lift_core.proofs.Stages.{front-take}

@@ -1,8 +1,8 @@
 use Rattle.std.proofs.Common.{◌≡◌, ◌∙◌, ℕ, ◌+◌, ◌-◌, ◌<◌, length, ap, sym, subst, arith, true, false}
 use Rattle.lift_core.specs.Stages.{has_positive_last}
 use Rattle.stage_store.specs.Classes.{row_at}
-use Rattle.stage_store.specs.Reaches.{IsWithinReach, IsBeyondReach}
-use Rattle.stage_store.proofs.Reaches.{IsCountedFrom, counted_first, counted_other}
+use Rattle.stage_store.specs.CountedPairs.{IsWithinReach, IsBeyondReach}
+use Rattle.stage_store.proofs.CountedPairs.{IsCountedFrom, counted_first, counted_other}
 use Rattle.stage_store.proofs.counting.pairs_within.Goals as goal
 
 pub loop-i-preserved-then-has_sign : goal.loop-i-preserved-then-has_sign

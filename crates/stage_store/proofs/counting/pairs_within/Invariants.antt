@@ -1,4 +1,4 @@
-use Rattle.stage_store.proofs.Reaches.{IsCountedFrom}
+use Rattle.stage_store.proofs.CountedPairs.{IsCountedFrom}
 use Rattle.stage_store.proofs.counting.pairs_within.Given as goal
 
 abbrev pub invariant-loop-i : goal.invariant-loop-i

@@ -1,4 +1,4 @@
-use Rattle.std.proofs.Common.{◌≤◌, ◌-◌, length}
+use Rattle.std.proofs.Common.{◌-◌, length}
 use Rattle.stage_store.specs.Classes.{sign_test}
 use Rattle.stage_store.proofs.ClassesByNorm.{AreClassesBefore}
 use Rattle.stage_store.proofs.rebuilding.classes_of.Given as goal

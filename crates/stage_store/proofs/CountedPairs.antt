@@ -1,15 +1,15 @@
 -- The count of pairs by reaches: a first row has a pair of norm at most e with exactly the second rows within its reach.
-use Rattle.std.proofs.Common.{◌≡◌, ℕ, zero, suc, ◌+◌, ◌-◌, ◌*◌, ◌^◌, ◌≤◌, ◌<◌, List, [], ◌∷◌, length, get_or, take, drop, refl, ap, sym, ◌∙◌, arith, Bool, inl, inr, subst, true, false, cond, ◌&&◌, leb, Less, get_or-drop, length-drop}
+use Rattle.std.proofs.Common.{◌≡◌, ℕ, zero, suc, ◌+◌, ◌-◌, ◌*◌, ◌^◌, ◌≤◌, ◌<◌, List, [], ◌∷◌, length, take, drop, refl, ap, sym, ◌∙◌, arith, Bool, true, false, cond, ◌&&◌, leb, Less, get_or-drop, length-drop}
 use Rattle.std.specs.Prelude.{ℤ}
 use Rattle.std.specs.List.{Contains, sum_by, count_by}
 use Rattle.std.specs.List.Sorted.{IsStrictlySortedBy}
-use Rattle.std.proofs.lemmas.Bool.{cases_eq, le-leb, lt-leb}
+use Rattle.std.proofs.lemmas.Bool.{le-leb, lt-leb}
 use Rattle.std.proofs.lemmas.List.{get_or-take, get_or_default, length-take-le}
-use Rattle.std.proofs.lemmas.List.Sums.{sum_by-take-drop, sum_by-drop_more, count_by_more_yes, count_by_more_no, count_by-le-length}
-use Rattle.lift_core.specs.Stages.{stage_norm, norm_cmp, has_positive_last, has_negative_last, pairs_within}
+use Rattle.std.proofs.lemmas.List.Sums.{sum_by-take-drop, sum_by-drop_more, count_by-le-length}
+use Rattle.lift_core.specs.Stages.{stage_norm, norm_cmp, has_positive_last, has_negative_last}
 use Rattle.lift_core.proofs.Counts.{sum_by-same, sum_by-nothing}
 use Rattle.stage_store.specs.Classes.{row_at}
-use Rattle.stage_store.specs.Reaches.{IsWithinReach, IsBeyondReach}
+use Rattle.stage_store.specs.CountedPairs.{IsWithinReach, IsBeyondReach}
 use Rattle.stage_store.proofs.Classes.{each_at}
 use Rattle.stage_store.proofs.Held.{not_more}
 
