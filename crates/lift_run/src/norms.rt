@@ -1,13 +1,32 @@
 //! One norm of a stage, worked out by several workers on one board.
 
-ghost use Rattle.std.specs.Prelude.{◌≤◌, IfOk};
+ghost use Rattle.std.specs.Prelude.{◌≤◌, ◌^◌, IfOk};
 ghost use Rattle.stage_store.specs.Published.{IsClosedNorm};
 
-use norm_board::Board;
+use norm_board::{Board, blocks_of};
 use stage_store::{Closed, Stage};
 use std::alloc::{AllocError, Global};
 use std::thread::Threads;
 use worker_gate::{Gate, run_norm};
+
+/// A third pass and each further one pays for its thread from so many blocks more: to start one costs about as much as to
+/// work them out.
+const BLOCKS_A_PASS: u64 = 8;
+
+// How many passes work out a norm of so many pairs: as many as there are workers, but no more than blocks, and no more than
+// the blocks pay for.
+fn passes_for(pairs: u64, workers: u32) -> u32
+    requires pairs { pairs ≤ 2 ^ 42 }
+    requires some { 1 ≤ workers }
+    ensures some { 1 ≤ result }
+    ensures most { result ≤ workers }
+{
+    let blocks = blocks_of(pairs);
+    match u32::try_from(blocks.min(2 + blocks / BLOCKS_A_PASS)) {
+        Ok(passes) => workers.min(passes.max(1)),
+        Err(_) => workers,
+    }
+}
 
 /// The irreducible sums of a norm, each once, in order.
 pub(crate) fn norm_sums<R: Threads + Sync, G: Gate + Sync>(
@@ -23,7 +42,8 @@ pub(crate) fn norm_sums<R: Threads + Sync, G: Gate + Sync>(
     requires most { workers ≤ 32 }
     ensures { IfOk result (IsClosedNorm stage.now norm) }
 {
-    let (board, pass) = Board::start(alloc, stage, norm, workers)?;
+    let passes = passes_for(stage.pairs_at(norm), workers);
+    let (board, pass) = Board::start(alloc, stage, norm, passes)?;
     let (board, pass, left) = run_norm(rt, alloc, stage, norm, board, pass, gate)?;
     let Ok(closed) = board.close(alloc, pass, left) else {
         return Err(AllocError);

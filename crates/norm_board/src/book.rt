@@ -88,8 +88,6 @@ impl Book {
         ensures room { self.new.room ≡ false }
         ensures scratch { scratch.new ≡ scratch.old }
     {
-        // so the block's numbers are known to be small
-        let _pairs = stage.pairs_at(self.norm);
         stage.gather(
             self.norm,
             block.first,

@@ -17,7 +17,7 @@ mod runs;
 mod scratch;
 mod share;
 
-pub use block::Block;
+pub use block::{Block, blocks_of};
 pub use board::{Board, CloseRefused, Put};
 pub use pass::Pass;
 pub use share::{Share, Turn};

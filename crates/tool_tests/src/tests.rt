@@ -155,11 +155,7 @@ fn wanted(alloc: Global, case: &Case) -> Result<String, Fail> {
 }
 
 // What came and what was to come, for each case where these differ.
-fn differences<R: Threads + Sync>(
-    rt: &R,
-    alloc: Global,
-    cases: &[Case],
-) -> Result<String, Fail> {
+fn differences<R: Threads + Sync>(rt: &R, alloc: Global, cases: &[Case]) -> Result<String, Fail> {
     let mut shown = String::new(alloc);
     for case in cases {
         let came = outcome(rt, alloc, case)?;

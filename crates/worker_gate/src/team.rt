@@ -15,19 +15,11 @@ use std::alloc::{AllocError, Global};
 use std::thread;
 use std::thread::Threads;
 
-/// A thread more is started for so many blocks more: it costs about what it takes to work them out.
-const BLOCKS_A_THREAD: u64 = 8;
-
-// In how many threads the blocks are worked out, the caller's own among them: one for a single block, else two or more, and
-// never more than blocks.
+// In how many threads the blocks are worked out, the caller's own among them: never in more than there are blocks.
 fn threads_for(blocks: u64) -> usize
     ensures some { 0 < result }
 {
-    if blocks <= 1 {
-        return 1;
-    }
-    let more = 1 + (blocks - 2) / BLOCKS_A_THREAD;
-    1 + more.min(31) as usize
+    blocks.max(1).min(32) as usize
 }
 
 // Runs one worker.
@@ -38,7 +30,7 @@ fn run_one<'s, G: Gate>(board: &Board<'s>, worker: &mut Worker<'s>, number: u32,
     worker.failed = work(board, &mut worker.pass, &mut worker.share, number, gate).is_err();
 }
 
-// Runs the workers, each in a thread of its own where there are blocks enough.
+// Runs the workers, each in a thread of its own where there are as many blocks.
 fn run_all<'s, R: Threads + Sync, G: Gate + Sync>(
     rt: &R,
     board: &Board<'s>,
@@ -183,8 +175,8 @@ fn take_in<'s>(
 
 /// Works the norm out with as many workers as the pass has weight, which is the board's number of passes. Each worker gets a pass
 /// and a share; when all are done the passes are joined, and the shares that are left are put together. Board, pass and share
-/// then meet the conditions of `Board::close`. Threads are started as the blocks pay for them, none for a single block; a worker
-/// whose thread cannot be started is run by the caller.
+/// then meet the conditions of `Board::close`. Each worker runs in a thread of its own, the last one in the caller's; no thread is
+/// started for a single block, and a worker whose thread cannot be started is run by the caller.
 ///
 /// # Errors
 /// Memory ran out; board and pass are gone.

@@ -9,6 +9,9 @@ use crate::gate::{Gate, Point};
 use norm_board::{Board, Pass, Put, Share};
 use std::alloc::AllocError;
 
+/// A share with so many sums is full.
+const FULL: u32 = 16_384;
+
 // Puts the share, and tells the gate before and after it.
 fn put_share<'s, G: Gate>(
     board: &Board<'s>,
@@ -31,8 +34,8 @@ fn put_share<'s, G: Gate>(
     Ok(())
 }
 
-// Puts the share where it has a sum. Blocks without sums wait for the next put, so that passing over them costs no put.
-fn put_sums<'s, G: Gate>(
+// Puts the share where it is full. Till then a sum that the worker comes to again is known to it, and is not looked for again.
+fn put_full<'s, G: Gate>(
     board: &Board<'s>,
     pass: &mut Pass,
     share: &mut Share<'s>,
@@ -43,15 +46,15 @@ fn put_sums<'s, G: Gate>(
     ensures still { IsWorker board.now pass.new share.new }
     ensures leaves { LeavesPass (view pass.old) (view pass.new) }
 {
-    if share.rows().len() == 0 {
+    if share.rows().len() < FULL {
         return Ok(());
     }
     put_share(board, pass, share, worker, gate)
 }
 
-/// Draws and works out block after block until none is left, and puts its share after each block with a sum and at the end.
-/// Where another pass holds the turn, the worker keeps its share and goes on. The gate is told each draw, and each put before
-/// and after it.
+/// Draws and works out block after block until none is left, and puts its share when it has grown full and at the end. Where
+/// another pass holds the turn, the worker keeps its share and goes on. The gate is told each draw, and each put before and
+/// after it.
 ///
 /// # Errors
 /// Memory ran out. The pass still has its weight, and the share what the pass has drawn and not kept.
@@ -86,7 +89,7 @@ pub fn work<'s, G: Gate>(
         };
         least = block.number + 1;
         share.evaluate(block);
-        put_sums(board, pass, share, worker, gate)?;
+        put_full(board, pass, share, worker, gate)?;
     }
     put_share(board, pass, share, worker, gate)
 }

@@ -10,7 +10,8 @@ use tool_top::run_tool;
 use worker_gate::{FreeGate, Gate};
 
 // The equation x1 + .. + x17 = x18 + .. + x34.
-const BALANCE: &str = "1 34\n1 1 1 1 1 1 1 1 1 1 1 1 1 1 1 1 1 -1 -1 -1 -1 -1 -1 -1 -1 -1 -1 -1 -1 -1 -1 -1 -1 -1\n";
+const BALANCE: &str =
+    "1 34\n1 1 1 1 1 1 1 1 1 1 1 1 1 1 1 1 1 -1 -1 -1 -1 -1 -1 -1 -1 -1 -1 -1 -1 -1 -1 -1 -1 -1\n";
 
 // Long numbers, whose stage has more than a thousand norms.
 const LONG: &str = "1 2\n1009 -1013\n";
@@ -77,7 +78,10 @@ fn two_workers_of_a_command_meet(rt: HostRuntime) -> Result<(), Fail> {
     let more = told(&rt, alloc, run, &["--workers=2", "P"], &gate)?;
     let one = told(&rt, alloc, run, &["--workers=1", "P"], &FreeGate)?;
     assert!(rt; gate.has_met() && more.as_str() == one.as_str());
-    assert!(rt; one.as_str().starts_with("0\n289 solutions, 289 pairs\n289 34\n"));
+    assert!(rt;
+        one.as_str()
+            .starts_with("0\n289 solutions, 289 pairs\n289 34\n")
+    );
     Ok(())
 }
 

@@ -107,6 +107,9 @@ fn solve<R: Threads + Sync>(rt: &R, alloc: Global, seen: &mut Seen) -> Result<u3
 fn two_workers_meet_at_each_norm_of_two_blocks(rt: HostRuntime) -> Result<(), Fail> {
     let mut seen = Seen { long: 0, met: 0 };
     let solutions = solve(&rt, rt.alloc(), &mut seen)?;
-    assert_eq!(rt; (solutions, seen.long > 0, seen.met), (330, true, seen.long));
+    assert_eq!(rt;
+        (solutions, seen.long > 0, seen.met),
+        (330, true, seen.long)
+    );
     Ok(())
 }

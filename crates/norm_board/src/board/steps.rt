@@ -7,7 +7,7 @@ ghost use Rattle.norm_board.specs.Rule.{starting, gained, finished, shrunk, sing
 ghost use Rattle.norm_board.specs.Seen.{view, Belongs};
 
 use super::Board;
-use crate::block::Block;
+use crate::block::{Block, blocks_of};
 use crate::book::Book;
 use crate::pass::Pass;
 use crate::plays::{Cut, Draw, Glue, Look};
@@ -37,7 +37,7 @@ impl<'s> Board<'s> {
     {
         let pairs = base.pairs_at(norm);
         let plan = Plan {
-            blocks: (pairs + 255) / 256,
+            blocks: blocks_of(pairs),
             passes: passes as u64,
             norm,
             stage: Snapshot::of(base),

@@ -3,8 +3,8 @@ use Rattle.norm_board.specs.declared.rule.View.{View}
 use Rattle.worker_gate.proofs.Works.{has_stepped, draw_gains, leaves_gains, last_drawn}
 use Rattle.worker_gate.proofs.worker.work.Goals as goal
 
-pub put_sums-requires : goal.put_sums-requires
-put_sums-requires g c =
+pub put_full-requires : goal.put_full-requires
+put_full-requires g c =
     let before = c.loop-share.invariant.worker in
     let drew = rw c.in-Some-drawn.is at c.draw-drawn.ensures.some in
     let ready = c.ready.ensures.same in
@@ -16,20 +16,20 @@ put_sums-requires g c =
       blocks = has_stepped _ _ _ _ _ _ before.blocks drew.0 ready.blocks c.evaluate.ensures.blocks;
     }
 
-pub returns-in_err-put_sums-clause-gained : goal.returns-in_err-put_sums-clause-gained
-returns-in_err-put_sums-clause-gained g c =
+pub returns-in_err-put_full-clause-gained : goal.returns-in_err-put_full-clause-gained
+returns-in_err-put_full-clause-gained g c =
     let drew = rw c.in-Some-drawn.is at c.draw-drawn.ensures.some in
-    leaves_gains _ _ _ (draw_gains _ _ _ _ c.loop-share.invariant.gained drew.0) c.put_sums.ensures.leaves
+    leaves_gains _ _ _ (draw_gains _ _ _ _ c.loop-share.invariant.gained drew.0) c.put_full.ensures.leaves
 
 pub loop-share-preserved : goal.loop-share-preserved
 loop-share-preserved g c =
     let inv = c.loop-share.invariant in
     let drew = rw c.in-Some-drawn.is at c.draw-drawn.ensures.some in
     let block = rw c.in-Some-drawn.is at c.draw-drawn.ensures.block in
-    let left = c.put_sums.ensures.leaves in
+    let left = c.put_full.ensures.leaves in
     let inside = block.1 in
     record {
-      worker = c.put_sums.ensures.still;
+      worker = c.put_full.ensures.still;
       weight = left.weight ∙ (ap (λ (v : View). v.weight) drew.0 ∙ inv.weight);
       missed = omega (arith, left.missed, ap (λ (v : View). v.missed) drew.0, inv.missed);
       gained = leaves_gains _ _ _ (draw_gains _ _ _ _ inv.gained drew.0) left;
