@@ -1,6 +1,6 @@
 -- The first candidate that helps: of a vector and its negative, and of the rows one after another.
 use Rattle.std.proofs.Common.{◌≡◌, ℕ, zero, suc, ◌+◌, ◌<◌, ◌≤◌, List, [], ◌∷◌, ◌++◌, length, get_or, take, drop, refl, ap, ap₂, sym, ◌∙◌, subst, arith, append_assoc, Bool, true, false, inl, inr, ◌⊎◌, None, Some}
-use Rattle.std.specs.Prelude.{ℤ, pos, neg_ℤ, ◌≤ℤ◌, ◌<ℤ◌}
+use Rattle.std.specs.Prelude.{ℤ, pos, neg_ℤ, int_lt, ◌≤ℤ◌, ◌<ℤ◌}
 use Rattle.std.specs.List.{AllByRecursion}
 use Rattle.std.proofs.lemmas.Int.{ints}
 use Rattle.std.proofs.lemmas.List.{drop_more, take_more, take_all, take-append-drop}
@@ -10,6 +10,7 @@ use Rattle.system_files.specs.Kernel.{IsKernelRow}
 use Rattle.system_files.proofs.Negatives.{dot-negated}
 use Rattle.climb_tool.specs.Paths.{IsWithinBounds, Helps, candidates, NoneHelps, IsFirstToHelp, FirstHelp}
 use Rattle.climb_tool.specs.Inside.Turns.{turned}
+use Rattle.climb_tool.proofs.Entries.{less_true}
 
 -- ---- a vector and its negative
 above : (p : ℤ) → pos 0 <ℤ p → p <ℤ pos 0 → ⊥
@@ -54,6 +55,23 @@ module _ (upper cost x v : List ℤ) where
 
   pub none_above : pos 0 <ℤ dot cost v → (IsWithinBounds upper (add x (negated v)) → ⊥) → FirstHelp upper cost x (v ∷ negated v ∷ []) None
   none_above h n = (λ k. above (dot cost v) h k.cheaper, (λ k. n k.within, tt))
+
+not_less : (a b : ℤ) → int_lt a b ≡ false → b ≤ℤ a
+not_less a b h = grind (arith, ints, h)
+
+-- of the two the one whose cost is not above 0
+pub choice_some : (upper cost x v : List ℤ) (change : ℤ) (b : Bool) → change ≡ dot cost v → b ≡ int_lt (pos 0) change → (change ≡ pos 0 → ⊥) → IsWithinBounds upper (add x (turned b v)) →
+    FirstHelp upper cost x (v ∷ negated v ∷ []) (Some (turned b v))
+choice_some upper cost x v change true e f n w = negative_helps upper cost x v (subst (λ (p : ℤ). pos 0 <ℤ p) e (less_true (pos 0) change (sym f))) w
+choice_some upper cost x v change false e f n w = itself_helps upper cost x v (λ z. n (e ∙ z)) (subst (λ (p : ℤ). p ≤ℤ pos 0) e (not_less (pos 0) change (sym f))) w
+
+pub choice_zero : (upper cost x v : List ℤ) (change : ℤ) → change ≡ dot cost v → change ≡ pos 0 → FirstHelp upper cost x (v ∷ negated v ∷ []) None
+choice_zero upper cost x v change e z = none_at_zero upper cost x v (sym e ∙ z)
+
+pub choice_none : (upper cost x v : List ℤ) (change : ℤ) (b : Bool) → change ≡ dot cost v → b ≡ int_lt (pos 0) change → (IsWithinBounds upper (add x (turned b v)) → ⊥) →
+    FirstHelp upper cost x (v ∷ negated v ∷ []) None
+choice_none upper cost x v change true e f n = none_above upper cost x v (subst (λ (p : ℤ). pos 0 <ℤ p) e (less_true (pos 0) change (sym f))) n
+choice_none upper cost x v change false e f n = none_below upper cost x v (subst (λ (p : ℤ). p ≤ℤ pos 0) e (not_less (pos 0) change (sym f))) n
 
 -- ---- one row after another
 candidates-append : (xs ys : List (List ℤ)) → candidates (xs ++ ys) ≡ candidates xs ++ candidates ys

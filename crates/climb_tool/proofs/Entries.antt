@@ -1,9 +1,11 @@
 -- Points within their bounds, entry by entry, and vectors or their negatives.
 use Rattle.std.proofs.Common.{◌≡◌, ℕ, zero, suc, ◌+◌, ◌*◌, ◌/◌, ◌<◌, ◌≤◌, List, [], ◌∷◌, ◌++◌, length, get_or, take, drop, set, refl, ap, ap₂, sym, ◌∙◌, subst, arith, Bool, true, false, inl, inr, ◌⊎◌, min}
-use Rattle.std.specs.Prelude.{ℤ, pos, negsuc, neg_ℤ, nat_abs, ◌+ℤ◌, ◌-ℤ◌, ◌*ℤ◌, ◌≤ℤ◌, ◌<ℤ◌, ◌↔◌, All}
+use Rattle.std.specs.Prelude.{ℤ, pos, negsuc, neg_ℤ, nat_abs, int_lt, ◌+ℤ◌, ◌-ℤ◌, ◌*ℤ◌, ◌≤ℤ◌, ◌<ℤ◌, ◌↔◌, All}
 use Rattle.std.specs.List.{AllByRecursion}
 use Rattle.std.proofs.lemmas.Int.{ints, unsigned_abs-mul, fits_signed_from_abs}
-use Rattle.std.proofs.lemmas.List.{drop_more}
+use Rattle.std.proofs.lemmas.List.{drop_more, drop-set-lt}
+use Rattle.std.proofs.lemmas.Grind.{drop_more_same}
+use Rattle.int_vector.proofs.Sums.{sum_step, sum_done}
 use Rattle.std.proofs.Math.Nat.{mul-le-mul_right, le-div_iff_mul-le}
 use Rattle.std.proofs.Common.{SFits, w64}
 use mir.Syntax.{w128}
@@ -12,7 +14,7 @@ use Rattle.int_vector.specs.Vectors.{norm, dot, negated, IsZero}
 use Rattle.int_vector.specs.Operations.{add}
 use Rattle.lift_core.proofs.Systems.{test_same}
 use Rattle.system_files.proofs.Negatives.{length-negated}
-use Rattle.climb_tool.specs.Paths.{IsWithinBounds, times}
+use Rattle.climb_tool.specs.Paths.{IsWithinBounds, IsGreatest, times}
 use Rattle.climb_tool.specs.Inside.Turns.{turned, turned_entry}
 
 -- ---- turned vectors
@@ -46,6 +48,12 @@ drop-times c (x ∷ g) zero = refl
 drop-times c (x ∷ g) (suc i) = drop-times c g i
 
 -- ---- the loop over the entries
+pub within_length : (upper x : List ℤ) → IsWithinBounds upper x → length upper ≡ length x
+within_length [] [] h = refl
+within_length [] (a ∷ x) h = absurd h
+within_length (u ∷ upper) [] h = absurd h
+within_length (u ∷ upper) (a ∷ x) h = ap suc (within_length upper x h.1)
+
 abbrev pub Fits : ℤ → ℤ → ℤ → Type 0
 Fits u a g = (pos 0 ≤ℤ (a +ℤ g)) × ((a +ℤ g) ≤ℤ u)
 
@@ -88,14 +96,14 @@ entry_of_sum (u ∷ upper) (a ∷ x) (b ∷ g) (suc i) d l e f h = entry_of_sum 
 
 -- ---- how often an entry can be moved
 up_room : (u a : ℤ) (s d : ℕ) → pos 0 ≤ℤ a → a ≤ℤ u → 0 < s → Fits u a (pos d *ℤ pos s) ↔ (d ≤ nat_abs (u -ℤ a) / s)
-up_room u a s d low high h = (λ f. (le-div_iff_mul-le {s} {d} {nat_abs (u -ℤ a)} h).1 (below f), λ f. above ((le-div_iff_mul-le {s} {d} {nat_abs (u -ℤ a)} h).0 f)) where
+up_room u a s d low high h = (λ f. (le-div_iff_mul-le {k = s} {x = d} {y = nat_abs (u -ℤ a)} h).1 (below f), λ f. above ((le-div_iff_mul-le {k = s} {x = d} {y = nat_abs (u -ℤ a)} h).0 f)) where
   below : Fits u a (pos d *ℤ pos s) → d * s ≤ nat_abs (u -ℤ a)
   below f = grind (arith, ints, f, low, high)
   above : d * s ≤ nat_abs (u -ℤ a) → Fits u a (pos d *ℤ pos s)
   above f = grind (arith, ints, f, low, high)
 
 down_room : (u a : ℤ) (s d : ℕ) → pos 0 ≤ℤ a → a ≤ℤ u → Fits u a (pos d *ℤ negsuc s) ↔ (d ≤ nat_abs a / suc s)
-down_room u a s d low high = (λ f. (le-div_iff_mul-le {suc s} {d} {nat_abs a} (omega arith)).1 (below f), λ f. above ((le-div_iff_mul-le {suc s} {d} {nat_abs a} (omega arith)).0 f)) where
+down_room u a s d low high = (λ f. (le-div_iff_mul-le {k = suc s} {x = d} {y = nat_abs a} (omega arith)).1 (below f), λ f. above ((le-div_iff_mul-le {k = suc s} {x = d} {y = nat_abs a} (omega arith)).0 f)) where
   below : Fits u a (pos d *ℤ negsuc s) → d * suc s ≤ nat_abs a
   below f = grind (arith, ints, f, low, high)
   above : d * suc s ≤ nat_abs a → Fits u a (pos d *ℤ negsuc s)
@@ -124,13 +132,13 @@ product_small : (u a g : ℤ) (d : ℕ) → InRange u → pos 0 ≤ℤ a → a �
 product_small u a (pos zero) d r low high f n = absurd (n refl)
 product_small u a (pos (suc s)) d r low high f n =
     let q : d ≤ nat_abs (u -ℤ a) / suc s = (up_room u a (suc s) d low high (omega arith)).0 f in
-    let p : d * suc s ≤ nat_abs (u -ℤ a) = (le-div_iff_mul-le {suc s} {d} {nat_abs (u -ℤ a)} (omega arith)).0 q in
+    let p : d * suc s ≤ nat_abs (u -ℤ a) = (le-div_iff_mul-le {k = suc s} {x = d} {y = nat_abs (u -ℤ a)} (omega arith)).0 q in
     omega (arith, ints, p, r, low, high, least s d) where
       least : (s d : ℕ) → d ≤ d * suc s
       least s d = omega arith
 product_small u a (negsuc s) d r low high f n =
     let q : d ≤ nat_abs a / suc s = (down_room u a s d low high).0 f in
-    let p : d * suc s ≤ nat_abs a = (le-div_iff_mul-le {suc s} {d} {nat_abs a} (omega arith)).0 q in
+    let p : d * suc s ≤ nat_abs a = (le-div_iff_mul-le {k = suc s} {x = d} {y = nat_abs a} (omega arith)).0 q in
     omega (arith, ints, p, r, low, high, least s d) where
       least : (s d : ℕ) → d ≤ d * suc s
       least s d = omega arith
@@ -183,3 +191,69 @@ within_small (u ∷ upper) (a ∷ x) r h = (small u a r.0 h.0.0 h.0.1, within_sm
 
 pub entry_same : (a b : List ℤ) (i : ℕ) (d : ℤ) → drop i a ≡ drop i b → i < length a → i < length b → get_or a i d ≡ get_or b i d
 entry_same a b i d e l m = ap (λ w. get_or w 0 d) (sym (drop_more a i d l) ∙ e ∙ drop_more b i d m)
+
+-- ---- the loops over the entries of a point
+pub fits_step : (upper x g : List ℤ) (i : ℕ) (t : ℤ) → i < length upper → IsWithinBounds upper x → length g ≡ length upper → t ≡ get_or g i (pos 0) →
+    IsWithinBounds upper (add x g) ↔ IsWithinBounds (drop i upper) (add (drop i x) (drop i g)) → Fits (get_or upper i (pos 0)) (get_or x i (pos 0)) t →
+    IsWithinBounds upper (add x g) ↔ IsWithinBounds (drop (i + 1) upper) (add (drop (i + 1) x) (drop (i + 1) g))
+fits_step upper x g i t l point long is h f =
+    let m = within_more upper x g i (pos 0) l (sym (within_length upper x point)) long in
+    let g_fits : Fits (get_or upper i (pos 0)) (get_or x i (pos 0)) (get_or g i (pos 0)) = subst (Fits (get_or upper i (pos 0)) (get_or x i (pos 0))) is f in
+    (λ w. (m.0 (h.0 w)).1, λ r. h.1 (m.1 (g_fits, r)))
+
+pub fits_not : (upper x g : List ℤ) (i : ℕ) (t : ℤ) → i < length upper → IsWithinBounds upper x → length g ≡ length upper → t ≡ get_or g i (pos 0) →
+    (Fits (get_or upper i (pos 0)) (get_or x i (pos 0)) t → ⊥) → IsWithinBounds upper (add x g) → ⊥
+fits_not upper x g i t l point long is n w =
+    n (subst (Fits (get_or upper i (pos 0)) (get_or x i (pos 0))) (sym is) (entry_of_sum upper x g i (pos 0) l (sym (within_length upper x point)) long w))
+
+pub greatest_step : (upper x g : List ℤ) (i d most r new : ℕ) (t : ℤ) → i < length upper → IsWithinBounds upper x → length g ≡ length upper → t ≡ get_or g i (pos 0) → new ≡ min most r →
+    Fits (get_or upper i (pos 0)) (get_or x i (pos 0)) (pos d *ℤ t) ↔ (d ≤ r) →
+    IsWithinBounds upper (add x (times d g)) ↔ ((d ≤ most) × IsWithinBounds (drop i upper) (add (drop i x) (drop i (times d g)))) →
+    IsWithinBounds upper (add x (times d g)) ↔ ((d ≤ new) × IsWithinBounds (drop (i + 1) upper) (add (drop (i + 1) x) (drop (i + 1) (times d g))))
+greatest_step upper x g i d most r new t l point long is least f h =
+    let m = within_more upper x (times d g) i (pos 0) l (sym (within_length upper x point)) (length-times d g ∙ long) in
+    let at : get_or (times d g) i (pos 0) ≡ pos d *ℤ t = entry_times d g i (pos 0) (omega (arith, l, long)) ∙ ap (λ z. pos d *ℤ z) (sym is) in
+    (
+      λ w.
+          let p = h.0 w in
+          let q = m.0 p.1 in
+          let k : d ≤ r = f.0 (subst (Fits (get_or upper i (pos 0)) (get_or x i (pos 0))) at q.0) in
+          (omega (arith, p.0, k, least), q.1),
+      λ p.
+          let a : d ≤ most = omega (arith, p.0, least) in
+          let b : d ≤ r = omega (arith, p.0, least) in
+          h.1 (a, m.1 (subst (Fits (get_or upper i (pos 0)) (get_or x i (pos 0))) (sym at) (f.1 b), p.1)),
+    )
+
+pub greatest_end : (upper x g : List ℤ) (i most : ℕ) → length upper ≤ i → AllByRecursion InRange upper → IsWithinBounds upper x → length g ≡ length upper → (IsZero g → ⊥) → most ≤ 9223372036854775807 →
+    ((d : ℕ) → d ≤ 9223372036854775807 → IsWithinBounds upper (add x (times d g)) ↔ ((d ≤ most) × IsWithinBounds (drop i upper) (add (drop i x) (drop i (times d g))))) → IsGreatest upper x g most
+greatest_end upper x g i most l range point long nonzero small h = record {
+  within = (h most small).1 (omega arith, within_end upper x (times most g) i l (sym (within_length upper x point)) (length-times most g ∙ long));
+  most = λ d w. ((h d (steps_bounded upper x g d range point long nonzero w)).0 w).0;
+}
+
+-- a point that is moved entry by entry
+pub moved_entry : (upper start t x : List ℤ) (i : ℕ) (y : ℤ) → length x ≡ length upper → IsWithinBounds upper start → length t ≡ length upper → i < length upper → drop i x ≡ drop i start →
+    y ≡ get_or x i (pos 0) +ℤ get_or t i (pos 0) → y ≡ get_or start i (pos 0) +ℤ get_or t i (pos 0)
+moved_entry upper start t x i y m point long l others is =
+    is ∙ ap (λ a. a +ℤ get_or t i (pos 0)) (entry_same x start i (pos 0) others (omega (arith, m, l)) (omega (arith, within_length upper start point, l)))
+
+pub moved_taken : (upper start t x : List ℤ) (i : ℕ) (y : ℤ) → length x ≡ length upper → IsWithinBounds upper start → length t ≡ length upper → i < length upper →
+    take i x ≡ take i (add start t) → y ≡ get_or start i (pos 0) +ℤ get_or t i (pos 0) → take (i + 1) (set x i y) ≡ take (i + 1) (add start t)
+moved_taken upper start t x i y m point long l done is =
+    sum_step start t x i y (m ∙ within_length upper start point) (long ∙ within_length upper start point) (omega (arith, within_length upper start point, l)) done is
+
+pub moved_others : (start x : List ℤ) (i : ℕ) (y : ℤ) → drop i x ≡ drop i start → drop (i + 1) (set x i y) ≡ drop (i + 1) start
+moved_others start x i y others = drop-set-lt (i + 1) x i y (omega arith) ∙ drop_more_same x start i others
+
+pub moved_all : (upper start t x : List ℤ) (i : ℕ) → length x ≡ length upper → IsWithinBounds upper start → length t ≡ length upper → length upper ≤ i → take i x ≡ take i (add start t) → x ≡ add start t
+moved_all upper start t x i m point long l done =
+    sum_done start t x i (m ∙ within_length upper start point) (long ∙ within_length upper start point) (omega (arith, m, l)) done
+
+pub less_true : (a b : ℤ) → int_lt a b ≡ true → a <ℤ b
+less_true a b h = grind (arith, ints, h)
+
+pub range_at : (v : List ℤ) (i : ℕ) (d : ℤ) → i < length v → AllByRecursion InRange v → InRange (get_or v i d)
+range_at [] i d l h = absurd (omega arith)
+range_at (x ∷ v) zero d l h = h.0
+range_at (x ∷ v) (suc i) d l h = range_at v i d (omega arith) h.1

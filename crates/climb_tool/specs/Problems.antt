@@ -106,15 +106,20 @@ numbers p = do
   upper ← unless_column (first_true (map is_negative p.upper.cells)) UpperRange
   unless_column (first_true (outside_bounds p.upper.cells p.start.cells)) Infeasible
 
+abbrev pub accepted : Problem → Result (Unit {0}) Stop
+accepted p = do
+  fits ← shapes p
+  numbers p
+
 abbrev pub problem_in : List ℕ → Files → Result Problem Stop
 problem_in project files = do
   p ← files_in project files
-  fits ← shapes p
-  stands ← numbers p
+  stands ← accepted p
   Ok p
 
 -- the set has as many columns as the matrix, and so has each of the others
 pub record HasShapes (p : Problem) : Type 0 where
+  pub wide : 1 ≤ p.mat.cols
   pub set : p.mat.cols ≡ p.set.cols
   pub rows : length p.set.cells ≡ p.set.rows * p.set.cols
   pub cost : length p.cost.cells ≡ p.mat.cols

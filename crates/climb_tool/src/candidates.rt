@@ -5,7 +5,7 @@ ghost use Rattle.std.specs.List.{AllByRecursion};
 ghost use Rattle.int_vector.specs.Vectors.{norm, negated};
 ghost use Rattle.int_vector.specs.Range.{InRange};
 ghost use Rattle.system_files.specs.Kernel.{rows_in};
-ghost use Rattle.climb_tool.specs.Paths.{FirstHelp, candidates};
+ghost use Rattle.climb_tool.specs.Paths.{IsWithinBounds, FirstHelp, candidates};
 ghost use Rattle.climb_tool.specs.Problems.{IsProblem};
 ghost use Rattle.climb_tool.specs.Ends.{AreInKernel};
 ghost use Rattle.climb_tool.specs.Inside.Turns.{vector_of};
@@ -23,7 +23,7 @@ pub(crate) struct Candidate<'a> {
 
 // The vector or its negative, whichever helps at x: of the two at most one has a negative cost.
 fn helping<'a>(upper: &[i64], cost: &[i64], x: &[i64], vector: &'a [i64]) -> Option<Candidate<'a>>
-    requires point { length x.now ≡ length upper.now }
+    requires point { IsWithinBounds upper.now x.now }
     requires cost { length cost.now ≡ length upper.now }
     requires costs { AllByRecursion (λ c. nat_abs c ≤ 72057594037927936) cost.now }
     requires vector { length vector.now ≡ length upper.now }
@@ -48,16 +48,16 @@ fn helping<'a>(upper: &[i64], cost: &[i64], x: &[i64], vector: &'a [i64]) -> Opt
 pub(crate) fn first_to_help<'a>(problem: &'a Problem, x: &[i64]) -> Option<Candidate<'a>>
     requires problem { IsProblem problem.now }
     requires kernel { AreInKernel problem.now }
-    requires point { length x.now ≡ problem.now.mat.cols }
+    requires point { IsWithinBounds problem.now.upper.cells x.now }
     ensures first { FirstHelp problem.now.upper.cells problem.now.cost.cells x.now (candidates (rows_in problem.now.set)) (option_map vector_of result) }
     ensures vector { IfSome result (λ c. length c.vector.now ≡ problem.now.mat.cols) }
     ensures range { IfSome result (λ c. All InRange c.vector.now) }
 {
     for i in 0..row_count(&problem.set) {
         let vector = row(&problem.set, i);
-        let found = helping(&problem.upper.cells, &problem.cost.cells, x, vector);
-        if found.is_some() {
-            return found;
+        match helping(&problem.upper.cells, &problem.cost.cells, x, vector) {
+            Some(candidate) => return Some(candidate),
+            None => {}
         }
     }
     None

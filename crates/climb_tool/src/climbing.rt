@@ -26,7 +26,7 @@ pub(crate) struct Path {
 fn push_step(cells: &mut Vec<i64>, count: u64, candidate: Candidate<'_>) -> Result<(), AllocError>
     requires count { count ≤ 9223372036854775807 }
     requires range { All InRange candidate.vector.now }
-    ensures { OnOk result (cells.new.items ≡ cells.old.items ++ (pos count ∷ vector_of candidate)) }
+    ensures { OnOk result (cells.new.items ≡ cells.old.items ++ (pos count ∷ vector_of candidate.entry)) }
 {
     cells.push(count as i64)?;
     for entry in candidate.vector {
@@ -41,8 +41,9 @@ fn begin(alloc: Global, problem: &Problem) -> Result<Path, AllocError>
     ensures walked { IfOk result (IsWalked problem.now) }
     ensures count { IfOk result (λ path. path.count ≡ 0) }
 {
+    let point = Vec::from_slice(alloc, &problem.start.cells)?;
     Ok(Path {
-        point: Vec::from_slice(alloc, &problem.start.cells)?,
+        point,
         cells: Vec::new(alloc),
         count: 0,
     })

@@ -22,18 +22,23 @@ pub(crate) fn turned_entry(negative: bool, entry: i64) -> i64
 
 // Whether an entry stays within its bound where so much is added.
 fn fits(upper: i64, entry: i64, step: i64) -> bool
+    requires low { pos 0 ≤ℤ entry }
+    requires high { entry ≤ℤ upper }
     ensures { IsTrue result ↔ ((pos 0 ≤ℤ (entry +ℤ step)) × ((entry +ℤ step) ≤ℤ upper)) }
 {
-    let sum = i128::from(entry) + i128::from(step);
-    0 <= sum && sum <= i128::from(upper)
+    if step < 0 {
+        0 <= entry + step
+    } else {
+        step <= upper - entry
+    }
 }
 
 // Whether the point stays within the bounds where the candidate is added.
 pub(crate) fn stays_within(upper: &[i64], x: &[i64], candidate: Candidate<'_>) -> bool
-    requires point { length x.now ≡ length upper.now }
+    requires point { IsWithinBounds upper.now x.now }
     requires vector { length candidate.vector.now ≡ length upper.now }
     requires range { All InRange candidate.vector.now }
-    ensures { IsTrue result ↔ IsWithinBounds upper.now (add x.now (vector_of candidate)) }
+    ensures { IsTrue result ↔ IsWithinBounds upper.now (add x.now (vector_of candidate.entry)) }
 {
     for i in 0..upper.len() {
         if !fits(upper[i], x[i], turned_entry(candidate.negative, candidate.vector[i])) {
@@ -52,7 +57,7 @@ pub(crate) fn cost_of(cost: &[i64], vector: &[i64]) -> i128
 {
     let mut sum: i128 = 0;
     for i in 0..cost.len() {
-        sum += i128::from(cost[i]) * i128::from(vector[i]);
+        sum += cost[i] as i128 * vector[i] as i128;
     }
     sum
 }
@@ -82,7 +87,7 @@ pub(crate) fn greatest(upper: &[i64], x: &[i64], candidate: Candidate<'_>) -> u6
     requires range { All InRange candidate.vector.now }
     requires nonzero { IsZero (vector_of candidate) → ⊥ }
     ensures most { result ≤ 9223372036854775807 }
-    ensures greatest { IsGreatest upper.now x.now (vector_of candidate) result }
+    ensures greatest { IsGreatest upper.now x.now (vector_of candidate.entry) result }
 {
     let mut most = LARGEST;
     for i in 0..upper.len() {
@@ -93,27 +98,27 @@ pub(crate) fn greatest(upper: &[i64], x: &[i64], candidate: Candidate<'_>) -> u6
 }
 
 // An entry after so many steps.
-fn moved(upper: i64, entry: i64, count: u64, step: i64) -> i64
+fn moved(entry: i64, count: u64, step: i64) -> i64
     requires count { count ≤ 9223372036854775807 }
-    requires low { pos 0 ≤ℤ (entry +ℤ (pos count *ℤ step)) }
-    requires high { (entry +ℤ (pos count *ℤ step)) ≤ℤ upper }
+    requires before { (pos 0 ≤ℤ entry) × (entry ≤ℤ pos 9223372036854775807) }
+    requires after { (pos 0 ≤ℤ (entry +ℤ (pos count *ℤ step))) × ((entry +ℤ (pos count *ℤ step)) ≤ℤ pos 9223372036854775807) }
     ensures { result ≡ entry +ℤ (pos count *ℤ step) }
 {
-    let _ = upper;
-    (i128::from(entry) + i128::from(count) * i128::from(step)) as i64
+    entry + count as i64 * step
 }
 
 // Adds the candidate so many times.
 pub(crate) fn advance(upper: &[i64], x: &mut [i64], candidate: Candidate<'_>, count: u64)
     requires count { count ≤ 9223372036854775807 }
-    requires lengths { length x.old ≡ length upper.now }
+    requires upper { AllByRecursion InRange upper.now }
+    requires point { IsWithinBounds upper.now x.old }
     requires vector { length candidate.vector.now ≡ length upper.now }
     requires range { All InRange candidate.vector.now }
     requires within { IsWithinBounds upper.now (add x.old (times count (vector_of candidate))) }
-    ensures { x.new ≡ add x.old (times count (vector_of candidate)) }
+    ensures { x.new ≡ add x.old (times count (vector_of candidate.entry)) }
 {
     for i in 0..upper.len() {
         let step = turned_entry(candidate.negative, candidate.vector[i]);
-        x[i] = moved(upper[i], x[i], count, step);
+        x[i] = moved(x[i], count, step);
     }
 }

@@ -1,7 +1,6 @@
 //! A problem: the matrix, the set of vectors, the costs, the bounds and the start.
 ghost use Rattle.std.specs.Prelude.{◌≡◌, ◌≤◌, ◌*◌, length, map, OnOk};
-ghost use Rattle.climb_tool.specs.Problems.{has_columns, is_row, unless, shapes, is_large, is_negative, outside_bounds, first_true, numbers, HasShapes, IsProblem};
-ghost use Rattle.system_files.specs.Files.{◌>>=◌};
+ghost use Rattle.climb_tool.specs.Problems.{has_columns, is_row, unless, shapes, is_large, is_negative, outside_bounds, first_true, numbers, accepted, HasShapes, IsProblem};
 ghost use Rattle.std.specs.List.{AllByRecursion};
 ghost use Rattle.int_vector.specs.Range.{InRange};
 
@@ -51,6 +50,7 @@ fn is_row(grid: &Grid, columns: u32) -> bool
     ensures fits { result ≡ is_row grid.now columns }
     ensures count { length grid.now.cells ≡ grid.now.rows * grid.now.cols }
     ensures range { AllByRecursion InRange grid.now.cells }
+    ensures wide { 1 ≤ grid.now.cols }
 {
     grid.rows == 1 && grid.cols == columns
 }
@@ -129,7 +129,7 @@ fn check_numbers(problem: &Problem) -> Result<(), Stop>
 // Whether the matrices make a problem, or their first fault.
 pub(crate) fn accept(problem: &Problem) -> Result<(), Stop>
     requires { problem.now.mat.cols ≤ 64 }
-    ensures is { result ≡ (shapes problem.now >>= (λ _. numbers problem.now)) }
+    ensures is { result ≡ accepted problem.now }
     ensures stands { OnOk result (IsProblem problem.now) }
 {
     check_shapes(problem)?;
