@@ -1,6 +1,6 @@
 -- The first candidate that helps: of a vector and its negative, and of the rows one after another.
 use Rattle.std.proofs.Common.{◌≡◌, ℕ, zero, suc, ◌+◌, ◌<◌, ◌≤◌, List, [], ◌∷◌, ◌++◌, length, get_or, take, drop, refl, ap, ap₂, sym, ◌∙◌, subst, arith, append_assoc, Bool, true, false, inl, inr, ◌⊎◌, None, Some}
-use Rattle.std.specs.Prelude.{ℤ, pos, neg_ℤ, int_lt, ◌≤ℤ◌, ◌<ℤ◌}
+use Rattle.std.specs.Prelude.{ℤ, pos, neg_ℤ, int_lt, MatchOption, IfSome, Option, ◌≤ℤ◌, ◌<ℤ◌}
 use Rattle.std.specs.List.{AllByRecursion}
 use Rattle.std.proofs.lemmas.Int.{ints}
 use Rattle.std.proofs.lemmas.List.{drop_more, take_more, take_all, take-append-drop}
@@ -9,7 +9,10 @@ use Rattle.int_vector.specs.Operations.{add}
 use Rattle.system_files.specs.Kernel.{IsKernelRow}
 use Rattle.system_files.proofs.Negatives.{dot-negated}
 use Rattle.climb_tool.specs.Paths.{IsWithinBounds, Helps, candidates, NoneHelps, IsFirstToHelp, FirstHelp}
-use Rattle.climb_tool.specs.Inside.Turns.{turned}
+use Rattle.std.specs.Borrow.{Bor}
+use Rattle.std.specs.Option.{option_map}
+use Rattle.climb_tool.specs.declared.candidates.Candidate.{Candidate}
+use Rattle.climb_tool.specs.Inside.Turns.{vector_of}
 use Rattle.climb_tool.proofs.Entries.{less_true}
 
 -- ---- a vector and its negative
@@ -59,19 +62,46 @@ module _ (upper cost x v : List ℤ) where
 not_less : (a b : ℤ) → int_lt a b ≡ false → b ≤ℤ a
 not_less a b h = grind (arith, ints, h)
 
--- of the two the one whose cost is not above 0
-pub choice_some : (upper cost x v : List ℤ) (change : ℤ) (b : Bool) → change ≡ dot cost v → b ≡ int_lt (pos 0) change → (change ≡ pos 0 → ⊥) → IsWithinBounds upper (add x (turned b v)) →
-    FirstHelp upper cost x (v ∷ negated v ∷ []) (Some (turned b v))
-choice_some upper cost x v change true e f n w = negative_helps upper cost x v (subst (λ (p : ℤ). pos 0 <ℤ p) e (less_true (pos 0) change (sym f))) w
-choice_some upper cost x v change false e f n w = itself_helps upper cost x v (λ z. n (e ∙ z)) (subst (λ (p : ℤ). p ≤ℤ pos 0) e (not_less (pos 0) change (sym f))) w
+neither : (a : ℤ) → int_lt a (pos 0) ≡ false → int_lt (pos 0) a ≡ false → a ≡ pos 0
+neither a h k = grind (arith, ints, not_less a (pos 0) h, not_less (pos 0) a k)
 
-pub choice_zero : (upper cost x v : List ℤ) (change : ℤ) → change ≡ dot cost v → change ≡ pos 0 → FirstHelp upper cost x (v ∷ negated v ∷ []) None
-choice_zero upper cost x v change e z = none_at_zero upper cost x v (sym e ∙ z)
+negative_nonzero : (a : ℤ) → a <ℤ pos 0 → a ≡ pos 0 → ⊥
+negative_nonzero a h e = grind (arith, ints)
 
-pub choice_none : (upper cost x v : List ℤ) (change : ℤ) (b : Bool) → change ≡ dot cost v → b ≡ int_lt (pos 0) change → (IsWithinBounds upper (add x (turned b v)) → ⊥) →
-    FirstHelp upper cost x (v ∷ negated v ∷ []) None
-choice_none upper cost x v change true e f n = none_above upper cost x v (subst (λ (p : ℤ). pos 0 <ℤ p) e (less_true (pos 0) change (sym f))) n
-choice_none upper cost x v change false e f n = none_below upper cost x v (subst (λ (p : ℤ). p ≤ℤ pos 0) e (not_less (pos 0) change (sym f))) n
+negative_at_most : (a : ℤ) → a <ℤ pos 0 → a ≤ℤ pos 0
+negative_at_most a h = grind (arith, ints)
+
+first_of_tried : (upper cost x : List ℤ) (vectors : List (List ℤ)) (W : Type 0) (candidate : Candidate) (r : Option Candidate) → MatchOption r (W → ⊥) (λ c. (c ≡ candidate) × W) →
+    (W → FirstHelp upper cost x vectors (Some (vector_of candidate))) → ((W → ⊥) → FirstHelp upper cost x vectors None) → FirstHelp upper cost x vectors (option_map vector_of r)
+first_of_tried upper cost x vectors W candidate None h taken left = left h
+first_of_tried upper cost x vectors W candidate (Some c) h taken left =
+    subst (λ (v : List ℤ). FirstHelp upper cost x vectors (Some v)) (ap vector_of (sym h.0)) (taken h.1)
+
+-- of the two the one whose cost is negative
+pub tried_itself : (upper cost x : List ℤ) (v : Bor (List ℤ)) (change : ℤ) (r : Option Candidate) → change ≡ dot cost v.now → int_lt change (pos 0) ≡ true →
+    MatchOption r (IsWithinBounds upper (add x v.now) → ⊥) (λ c. (c ≡ record { vector = v; negative = false }) × IsWithinBounds upper (add x v.now)) →
+    FirstHelp upper cost x (v.now ∷ negated v.now ∷ []) (option_map vector_of r)
+tried_itself upper cost x v change r e f h =
+    let l : dot cost v.now <ℤ pos 0 = subst (λ (p : ℤ). p <ℤ pos 0) e (less_true change (pos 0) f) in
+    first_of_tried upper cost x (v.now ∷ negated v.now ∷ []) (IsWithinBounds upper (add x v.now)) (record { vector = v; negative = false }) r h
+    (itself_helps upper cost x v.now (negative_nonzero (dot cost v.now) l) (negative_at_most (dot cost v.now) l))
+    (none_below upper cost x v.now (negative_at_most (dot cost v.now) l))
+
+pub tried_negative : (upper cost x : List ℤ) (v : Bor (List ℤ)) (change : ℤ) (r : Option Candidate) → change ≡ dot cost v.now → int_lt (pos 0) change ≡ true →
+    MatchOption r (IsWithinBounds upper (add x (negated v.now)) → ⊥) (λ c. (c ≡ record { vector = v; negative = true }) × IsWithinBounds upper (add x (negated v.now))) →
+    FirstHelp upper cost x (v.now ∷ negated v.now ∷ []) (option_map vector_of r)
+tried_negative upper cost x v change r e f h =
+    let l : pos 0 <ℤ dot cost v.now = subst (λ (p : ℤ). pos 0 <ℤ p) e (less_true (pos 0) change f) in
+    first_of_tried upper cost x (v.now ∷ negated v.now ∷ []) (IsWithinBounds upper (add x (negated v.now))) (record { vector = v; negative = true }) r h
+    (negative_helps upper cost x v.now l)
+    (none_above upper cost x v.now l)
+
+pub tried_none : (upper cost x v : List ℤ) (change : ℤ) → change ≡ dot cost v → int_lt change (pos 0) ≡ false → int_lt (pos 0) change ≡ false → FirstHelp upper cost x (v ∷ negated v ∷ []) None
+tried_none upper cost x v change e f g = none_at_zero upper cost x v (sym e ∙ neither change f g)
+
+pub same_vector : (v : Bor (List ℤ)) (b : Bool) (W : Type 0) (r : Option Candidate) → MatchOption r (W → ⊥) (λ c. (c ≡ record { vector = v; negative = b }) × W) → IfSome r (λ c. c.vector.now ≡ v.now)
+same_vector v b W None h = tt
+same_vector v b W (Some c) h = ap (λ k. k.vector.now) h.0
 
 -- ---- one row after another
 candidates-append : (xs ys : List (List ℤ)) → candidates (xs ++ ys) ≡ candidates xs ++ candidates ys

@@ -5,7 +5,7 @@ use Rattle.std.specs.List.{AllByRecursion}
 use Rattle.std.proofs.lemmas.Int.{ints}
 use Rattle.std.proofs.lemmas.List.{drop_more}
 use Rattle.climb_tool.specs.Paths.{IsWithinBounds}
-use Rattle.climb_tool.specs.Problems.{is_large, is_negative, outside_bounds, first_from}
+use Rattle.climb_tool.specs.Problems.{is_large, is_negative, is_outside, outside_bounds, first_from}
 
 -- ---- the first
 passed : (j : ℕ) (b : Bool) (bs : List Bool) → first_from j (b ∷ bs) ≡ None → (b ≡ false) × (first_from (j + 1) bs ≡ None)
@@ -37,9 +37,6 @@ pub column_end : (test : ℤ → Bool) (v : List ℤ) (i : ℕ) → length v ≤
 column_end test v i h = ap (λ w. first_from (i + 1) (map test w)) (nothing_behind v i h)
 
 -- ---- and over two
-abbrev pub is_outside : ℤ → ℤ → Bool
-is_outside u a = is_negative a || int_lt u a
-
 pub pair_taken : (upper x : List ℤ) (i : ℕ) (d : ℤ) → i < length upper → length x ≡ length upper → is_outside (get_or upper i d) (get_or x i d) ≡ true →
     first_from (i + 1) (outside_bounds (drop i upper) (drop i x)) ≡ Some (i + 1)
 pair_taken upper x i d l m e =

@@ -1,5 +1,5 @@
 -- Points within their bounds, entry by entry, and vectors or their negatives.
-use Rattle.std.proofs.Common.{◌≡◌, ℕ, zero, suc, ◌+◌, ◌*◌, ◌/◌, ◌<◌, ◌≤◌, List, [], ◌∷◌, ◌++◌, length, get_or, take, drop, set, refl, ap, ap₂, sym, ◌∙◌, subst, arith, Bool, true, false, inl, inr, ◌⊎◌, min}
+use Rattle.std.proofs.Common.{◌≡◌, ℕ, zero, suc, ◌+◌, ◌*◌, ◌/◌, ◌<◌, ◌≤◌, List, [], ◌∷◌, ◌++◌, length, get_or, take, drop, set, refl, ap, ap₂, sym, ◌∙◌, subst, arith, Bool, true, false, inl, inr, ◌⊎◌, min, append_assoc}
 use Rattle.std.specs.Prelude.{ℤ, pos, negsuc, neg_ℤ, nat_abs, int_lt, ◌+ℤ◌, ◌-ℤ◌, ◌*ℤ◌, ◌≤ℤ◌, ◌<ℤ◌, ◌↔◌, All}
 use Rattle.std.specs.List.{AllByRecursion}
 use Rattle.std.proofs.lemmas.Int.{ints, unsigned_abs-mul, fits_signed_from_abs}
@@ -46,6 +46,12 @@ drop-times c [] zero = refl
 drop-times c [] (suc i) = refl
 drop-times c (x ∷ g) zero = refl
 drop-times c (x ∷ g) (suc i) = drop-times c g i
+
+nothing_behind : (v : List ℤ) (i : ℕ) → length v ≤ i → drop i v ≡ []
+nothing_behind [] zero h = refl
+nothing_behind [] (suc i) h = refl
+nothing_behind (x ∷ v) zero h = absurd (omega arith)
+nothing_behind (x ∷ v) (suc i) h = nothing_behind v i (omega arith)
 
 -- ---- the loop over the entries
 pub within_length : (upper x : List ℤ) → IsWithinBounds upper x → length upper ≡ length x
@@ -257,3 +263,53 @@ pub range_at : (v : List ℤ) (i : ℕ) (d : ℤ) → i < length v → AllByRecu
 range_at [] i d l h = absurd (omega arith)
 range_at (x ∷ v) zero d l h = h.0
 range_at (x ∷ v) (suc i) d l h = range_at v i d (omega arith) h.1
+
+-- ---- the cells of a step, one after another
+turned_more : (b : Bool) (v : List ℤ) (i : ℕ) (d : ℤ) → i < length v → turned b (drop i v) ≡ turned_entry b (get_or v i d) ∷ turned b (drop (i + 1) v)
+turned_more true v i d l = ap (turned true) (drop_more v i d l)
+turned_more false v i d l = ap (turned false) (drop_more v i d l)
+
+turned_nothing : (b : Bool) (v : List ℤ) (i : ℕ) → length v ≤ i → turned b (drop i v) ≡ []
+turned_nothing true v i l = ap (turned true) (nothing_behind v i l)
+turned_nothing false v i l = ap (turned false) (nothing_behind v i l)
+
+nothing_added : (v : List ℤ) → v ++ [] ≡ v
+nothing_added [] = refl
+nothing_added (x ∷ v) = ap (λ w. x ∷ w) (nothing_added v)
+
+pub cells_begun : (old first : List ℤ) (c : ℤ) (g : List ℤ) → first ≡ old ++ (c ∷ []) → first ++ g ≡ old ++ (c ∷ g)
+cells_begun old first c g e = ap (λ w. w ++ g) e ∙ append_assoc old (c ∷ []) g
+
+pub cells_pushed : (b : Bool) (v cells new whole : List ℤ) (i : ℕ) (e : ℤ) → i < length v → e ≡ turned_entry b (get_or v i (pos 0)) → new ≡ cells ++ (e ∷ []) →
+    cells ++ turned b (drop i v) ≡ whole → new ++ turned b (drop (i + 1) v) ≡ whole
+cells_pushed b v cells new whole i e l is pushed h =
+    cells_begun cells new e (turned b (drop (i + 1) v)) pushed
+    ∙ ap (λ z. cells ++ (z ∷ turned b (drop (i + 1) v))) is
+    ∙ ap (λ w. cells ++ w) (sym (turned_more b v i (pos 0) l)) ∙ h
+
+pub cells_done : (b : Bool) (v cells whole : List ℤ) (i : ℕ) → length v ≤ i → cells ++ turned b (drop i v) ≡ whole → cells ≡ whole
+cells_done b v cells whole i l h = sym (nothing_added cells) ∙ ap (λ w. cells ++ w) (sym (turned_nothing b v i l)) ∙ h
+
+-- ---- a turned vector in range
+negated_range : (v : List ℤ) → AllByRecursion InRange v → AllByRecursion InRange (negated v)
+negated_range [] h = tt
+negated_range (x ∷ v) h = (same x h.0, negated_range v h.1) where
+  same : (x : ℤ) → InRange x → InRange (neg_ℤ x)
+  same x r = omega (arith, ints, r)
+
+pub turned_range : (b : Bool) (v : List ℤ) → AllByRecursion InRange v → AllByRecursion InRange (turned b v)
+turned_range true v h = negated_range v h
+turned_range false v h = h
+
+-- a vector of negative cost is not zero
+dot_zero : (cost g : List ℤ) → IsZero g → dot cost g ≡ pos 0
+dot_zero [] g z = refl
+dot_zero (c ∷ cost) [] z = refl
+dot_zero (c ∷ cost) (x ∷ g) z = ap₂ (λ a d. (c *ℤ a) +ℤ d) z.0 (dot_zero cost g z.1) ∙ nothing c where
+  nothing : (c : ℤ) → (c *ℤ pos 0) +ℤ pos 0 ≡ pos 0
+  nothing c = grind (arith, ints)
+
+pub not_zero : (cost g : List ℤ) → dot cost g <ℤ pos 0 → IsZero g → ⊥
+not_zero cost g l z = clash (dot cost g) (dot_zero cost g z) l where
+  clash : (p : ℤ) → p ≡ pos 0 → p <ℤ pos 0 → ⊥
+  clash p e l = grind (arith, ints)

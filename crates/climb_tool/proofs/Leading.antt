@@ -1,9 +1,10 @@
 -- Paths: one step more, what stays the same along them, and where they end.
-use Rattle.std.proofs.Common.{◌≡◌, ℕ, suc, ◌+◌, ◌*◌, ◌≤◌, List, [], ◌∷◌, ◌++◌, length, map, refl, ap, ap₂, sym, ◌∙◌, subst, arith, append_assoc}
+use Rattle.std.proofs.Common.{◌≡◌, ℕ, suc, ◌+◌, ◌*◌, ◌≤◌, List, [], ◌∷◌, ◌++◌, length, map, refl, ap, ap₂, sym, ◌∙◌, subst, arith, append_assoc, length-append}
 use Rattle.std.specs.Prelude.{ℤ, pos, ◌+ℤ◌, ◌*ℤ◌, ◌≤ℤ◌, None}
 use Rattle.std.specs.List.{AllByRecursion, flat_map}
 use Rattle.std.proofs.lemmas.Int.{ints}
 use Rattle.std.proofs.lemmas.List.Elements.{length_all_zip, recursion_from_All}
+use Rattle.int_vector.specs.Range.{InRange}
 use Rattle.int_vector.specs.Vectors.{dot, negated, norm}
 use Rattle.int_vector.specs.Operations.{add}
 use Rattle.int_vector.proofs.Vectors.{dot-add}
@@ -14,10 +15,12 @@ use Rattle.system_files.specs.Basis.{IsGraverBasis}
 use Rattle.system_files.proofs.Negatives.{length-negated}
 use Rattle.system_files.proofs.Kernels.{kernel_negated}
 use Rattle.climb_tool.specs.declared.problems.Problem.{Problem}
-use Rattle.climb_tool.specs.Paths.{IsWithinBounds, times, Helps, candidates, NoneHelps, IsFirstToHelp, Step, step_rows, after_step, IsStep, IsPath, IsFalling, IsOptimalFrom}
+use Rattle.climb_tool.specs.Paths.{IsWithinBounds, times, Helps, candidates, NoneHelps, IsFirstToHelp, IsGreatest, Step, step_rows, after_step, IsStep, IsPath, IsFalling, IsOptimalFrom}
 use Rattle.climb_tool.specs.Problems.{IsProblem}
 use Rattle.climb_tool.specs.Ends.{AreInKernel, IsClimb}
-use Rattle.climb_tool.proofs.Entries.{length-times}
+use Rattle.climb_tool.specs.declared.climbing.Path.{Path}
+use Rattle.climb_tool.specs.Inside.Walks.{IsWalk, IsWalked}
+use Rattle.climb_tool.proofs.Entries.{length-times, norm_in_range, within_small}
 use Rattle.climb_tool.proofs.Optimal.{dot-times, cost_falls, stuck_is_optimal}
 
 -- ---- one step more
@@ -47,7 +50,7 @@ one_cell v = sym (append_nothing v)
 
 pub length_more : (steps : List Step) (s : Step) → length (steps ++ (s ∷ [])) ≡ length steps + 1
 length_more [] s = refl
-length_more (t ∷ steps) s = ap suc (length_more steps s)
+length_more (t ∷ steps) s = omega (arith, length_more steps s)
 
 each_more : (n : ℕ) (rows : List (List ℤ)) (r : List ℤ) → AllByRecursion (λ row. length row ≡ n) rows → length r ≡ n → AllByRecursion (λ row. length row ≡ n) (rows ++ (r ∷ []))
 each_more n [] r h e = (e, tt)
@@ -148,3 +151,36 @@ is_climb p budget steps point h kernel path within stuck few =
 
 pub point_long : (p : Problem) (point : List ℤ) → IsProblem p → IsWithinBounds p.upper.cells point → length point ≡ p.mat.cols
 point_long p point h within = sym (within_long p.upper.cells point within) ∙ h.shapes.upper
+
+pub point_norm : (p : Problem) (point : List ℤ) → IsProblem p → IsWithinBounds p.upper.cells point → norm point ≤ 590295810358705651712
+point_norm p point h within =
+    omega (arith, norm_in_range point (within_small p.upper.cells point h.shapes.range within), point_long p point h within, h.few)
+
+-- one step more of a walk
+pub walk_more : (p : Problem) (old new : Path) (steps : List Step) (g : List ℤ) (n : ℕ) → IsProblem p → IsWalk p steps old → length g ≡ p.mat.cols → AllByRecursion InRange g → n ≤ 9223372036854775807 →
+    IsFirstToHelp p.upper.cells p.cost.cells old.point.items (candidates (rows_in p.set)) g → IsGreatest p.upper.cells old.point.items g n →
+    new.point.items ≡ add old.point.items (times n g) → new.cells.items ≡ old.cells.items ++ (pos n ∷ g) → new.count ≡ old.count + 1 → IsWalked p new
+walk_more p old new steps g n h w long range small first greatest point cells count =
+    let s : Step = record { count = n; by = g } in (
+      steps ++ (s ∷ []),
+      record {
+        leads = path_more p.upper.cells p.cost.cells (rows_in p.set) p.start.cells steps old.point.items new.point.items s w.leads (record { first = first; greatest = greatest }) point;
+        within = subst (IsWithinBounds p.upper.cells) (sym point) greatest.within;
+        cells = cells_more steps s old.cells.items new.cells.items w.cells cells;
+        count = count ∙ omega (arith, w.count, length_more steps s);
+        lengths = lengths_more p.mat.cols steps s w.lengths long;
+        small = subst (AllByRecursion InRange) (sym cells) (small-append InRange old.cells.items (pos n ∷ g) w.small (small, range));
+      },
+    )
+
+flat_length : (n : ℕ) (rows : List (List ℤ)) → AllByRecursion (λ row. length row ≡ n) rows → length (flat_map (λ row. row) rows) ≡ length rows * n
+flat_length n [] h = refl
+flat_length n (r ∷ rows) h = length-append r (flat_map (λ row. row) rows) ∙ omega (arith, h.0, flat_length n rows h.1)
+
+length-step_rows : (steps : List Step) → length (step_rows steps) ≡ length steps
+length-step_rows [] = refl
+length-step_rows (s ∷ steps) = omega (arith, length-step_rows steps)
+
+pub cells_count : (p : Problem) (steps : List Step) (path : Path) → IsWalk p steps path → length path.cells.items ≡ path.count * (p.mat.cols + 1)
+cells_count p steps path w =
+    ap length w.cells ∙ flat_length (p.mat.cols + 1) (step_rows steps) w.lengths ∙ ap (λ k. k * (p.mat.cols + 1)) (length-step_rows steps ∙ sym w.count)

@@ -81,11 +81,14 @@ is_large c = not (nat_le (nat_abs c) 72057594037927936)
 abbrev pub is_negative : ℤ → Bool
 is_negative a = int_lt a (pos 0)
 
+abbrev pub is_outside : ℤ → ℤ → Bool
+is_outside u a = is_negative a || int_lt u a
+
 -- which columns of x are below 0 or above their bound
 abbrev pub outside_bounds : List ℤ → List ℤ → List Bool
 outside_bounds [] x = []
 outside_bounds (u ∷ upper) [] = []
-outside_bounds (u ∷ upper) (a ∷ x) = (is_negative a || int_lt u a) ∷ outside_bounds upper x
+outside_bounds (u ∷ upper) (a ∷ x) = is_outside u a ∷ outside_bounds upper x
 
 -- the first column of which this is true, where the columns are counted from j
 abbrev pub first_from : ℕ → List Bool → Option ℕ

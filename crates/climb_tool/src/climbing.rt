@@ -11,7 +11,7 @@ ghost use Rattle.climb_tool.specs.Inside.Walks.{IsWalked, Climbed};
 use crate::candidates::{Candidate, first_to_help};
 use crate::ends::Stop;
 use crate::points::{advance, greatest, turned_entry};
-use crate::problems::Problem;
+use crate::problems::{Problem, cells};
 use std::alloc::{AllocError, Global};
 
 // The last point of a path, and the cells of its steps: for each how often, and the vector.
@@ -60,7 +60,7 @@ fn step(problem: &Problem, path: &mut Path, candidate: Candidate<'_>) -> Result<
     ensures walked { OnOk result (IsWalked problem.now path.new) }
     ensures count { OnOk result (path.new.count ≡ path.old.count + 1) }
 {
-    let upper = &problem.upper.cells;
+    let upper = cells(&problem.upper);
     let count = greatest(upper, &path.point, candidate);
     advance(upper, &mut path.point, candidate, count);
     push_step(&mut path.cells, count, candidate)?;

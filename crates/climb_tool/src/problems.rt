@@ -1,8 +1,9 @@
 //! A problem: the matrix, the set of vectors, the costs, the bounds and the start.
-ghost use Rattle.std.specs.Prelude.{◌≡◌, ◌≤◌, ◌*◌, length, map, OnOk};
-ghost use Rattle.climb_tool.specs.Problems.{has_columns, is_row, unless, shapes, is_large, is_negative, outside_bounds, first_true, numbers, accepted, HasShapes, IsProblem};
+ghost use Rattle.std.specs.Prelude.{◌≡◌, ◌≤◌, ◌*◌, length, map, nat_abs, OnOk};
+ghost use Rattle.climb_tool.specs.Problems.{has_columns, is_row, unless, shapes, is_large, is_negative, is_outside, outside_bounds, first_true, numbers, accepted, HasShapes, IsProblem};
 ghost use Rattle.std.specs.List.{AllByRecursion};
 ghost use Rattle.int_vector.specs.Range.{InRange};
+ghost use Rattle.climb_tool.specs.Paths.{IsWithinBounds};
 
 use crate::ClimbFile;
 use crate::ends::Stop;
@@ -20,6 +21,20 @@ pub(crate) struct Problem {
     pub(crate) cost: Grid,
     pub(crate) upper: Grid,
     pub(crate) start: Grid,
+}
+
+// The cells of a matrix, row by row.
+pub(crate) fn cells(grid: &Grid) -> &[i64]
+    ensures { result.now ≡ grid.now.cells }
+{
+    &grid.cells
+}
+
+// The number of its columns.
+pub(crate) fn columns(grid: &Grid) -> u32
+    ensures { result ≡ grid.now.cols }
+{
+    grid.cols
 }
 
 // The shape of a file, where it is not as it has to be.
@@ -93,6 +108,13 @@ fn first_negative(upper: &[i64]) -> Option<u32>
     None
 }
 
+// Whether an entry is below 0 or above its bound.
+fn is_outside(upper: i64, entry: i64) -> bool
+    ensures { result ≡ is_outside upper entry }
+{
+    entry < 0 || upper < entry
+}
+
 // The first column in which the point is not within the bounds.
 fn first_outside(upper: &[i64], point: &[i64]) -> Option<u32>
     requires few { length upper.now ≤ 64 }
@@ -100,11 +122,47 @@ fn first_outside(upper: &[i64], point: &[i64]) -> Option<u32>
     ensures { result ≡ first_true (outside_bounds upper.now point.now) }
 {
     for i in 0..upper.len() {
-        if point[i] < 0 || point[i] > upper[i] {
+        if is_outside(upper[i], point[i]) {
             return Some(i as u32 + 1);
         }
     }
     None
+}
+
+// The costs, where one is too large.
+fn check_costs(cost: &[i64]) -> Result<(), Stop>
+    requires { length cost.now ≤ 64 }
+    ensures is { result ≡ unless_column (first_true (map is_large cost.now)) (λ j. Stop.CostRange j) }
+    ensures stands { OnOk result (AllByRecursion (λ c. nat_abs c ≤ 72057594037927936) cost.now) }
+{
+    match first_large(cost) {
+        Some(at) => Err(Stop::CostRange { at }),
+        None => Ok(()),
+    }
+}
+
+// The bounds, where one is negative.
+fn check_bounds(upper: &[i64]) -> Result<(), Stop>
+    requires { length upper.now ≤ 64 }
+    ensures { result ≡ unless_column (first_true (map is_negative upper.now)) (λ j. Stop.UpperRange j) }
+{
+    match first_negative(upper) {
+        Some(at) => Err(Stop::UpperRange { at }),
+        None => Ok(()),
+    }
+}
+
+// The start, where it is not within the bounds.
+fn check_start(upper: &[i64], start: &[i64]) -> Result<(), Stop>
+    requires few { length upper.now ≤ 64 }
+    requires lengths { length start.now ≡ length upper.now }
+    ensures is { result ≡ unless_column (first_true (outside_bounds upper.now start.now)) (λ j. Stop.Infeasible j) }
+    ensures stands { OnOk result (IsWithinBounds upper.now start.now) }
+{
+    match first_outside(upper, start) {
+        Some(at) => Err(Stop::Infeasible { at }),
+        None => Ok(()),
+    }
 }
 
 // The first number that is not as it has to be.
@@ -114,16 +172,10 @@ fn check_numbers(problem: &Problem) -> Result<(), Stop>
     ensures is { result ≡ numbers problem.now }
     ensures stands { OnOk result (IsProblem problem.now) }
 {
-    if let Some(at) = first_large(&problem.cost.cells) {
-        return Err(Stop::CostRange { at });
-    }
-    if let Some(at) = first_negative(&problem.upper.cells) {
-        return Err(Stop::UpperRange { at });
-    }
-    match first_outside(&problem.upper.cells, &problem.start.cells) {
-        Some(at) => Err(Stop::Infeasible { at }),
-        None => Ok(()),
-    }
+    let upper = cells(&problem.upper);
+    check_costs(cells(&problem.cost))?;
+    check_bounds(upper)?;
+    check_start(upper, cells(&problem.start))
 }
 
 // Whether the matrices make a problem, or their first fault.

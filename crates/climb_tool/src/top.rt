@@ -17,7 +17,7 @@ use crate::commands::{project_or_nothing, read_command};
 use crate::ends::{Reached, Stop, code, end};
 use crate::messages::say;
 use crate::points::cost_of;
-use crate::problems::Problem;
+use crate::problems::{Problem, cells, columns};
 use crate::reading::read_problem;
 use crate::{ClimbEnd, ClimbStatus};
 use itoa::Buffer;
@@ -118,9 +118,9 @@ fn lay_out(problem: &Problem, path: Path) -> Results
     requires few { path.count ≤ 65536 }
     ensures { IsLaidOut problem.now path result.opt result.steps result.reached }
 {
-    let columns = problem.mat.cols;
+    let columns = columns(&problem.mat);
     let reached = Reached {
-        cost: cost_of(&problem.cost.cells, &path.point),
+        cost: cost_of(cells(&problem.cost), &path.point),
         steps: u64::from(path.count),
     };
     Results {
