@@ -105,6 +105,7 @@ up_room : (u a : ℤ) (s d : ℕ) → pos 0 ≤ℤ a → a ≤ℤ u → 0 < s �
 up_room u a s d low high h = (λ f. (le-div_iff_mul-le {k = s} {x = d} {y = nat_abs (u -ℤ a)} h).1 (below f), λ f. above ((le-div_iff_mul-le {k = s} {x = d} {y = nat_abs (u -ℤ a)} h).0 f)) where
   below : Fits u a (pos d *ℤ pos s) → d * s ≤ nat_abs (u -ℤ a)
   below f = grind (arith, ints, f, low, high)
+
   above : d * s ≤ nat_abs (u -ℤ a) → Fits u a (pos d *ℤ pos s)
   above f = grind (arith, ints, f, low, high)
 
@@ -112,6 +113,7 @@ down_room : (u a : ℤ) (s d : ℕ) → pos 0 ≤ℤ a → a ≤ℤ u → Fits u
 down_room u a s d low high = (λ f. (le-div_iff_mul-le {k = suc s} {x = d} {y = nat_abs a} (omega arith)).1 (below f), λ f. above ((le-div_iff_mul-le {k = suc s} {x = d} {y = nat_abs a} (omega arith)).0 f)) where
   below : Fits u a (pos d *ℤ negsuc s) → d * suc s ≤ nat_abs a
   below f = grind (arith, ints, f, low, high)
+
   above : d * suc s ≤ nat_abs a → Fits u a (pos d *ℤ negsuc s)
   above f = grind (arith, ints, f, low, high)
 
@@ -218,8 +220,7 @@ pub greatest_step : (upper x g : List ℤ) (i d most r new : ℕ) (t : ℤ) → 
     IsWithinBounds upper (add x (times d g)) ↔ ((d ≤ new) × IsWithinBounds (drop (i + 1) upper) (add (drop (i + 1) x) (drop (i + 1) (times d g))))
 greatest_step upper x g i d most r new t l point long is least f h =
     let m = within_more upper x (times d g) i (pos 0) l (sym (within_length upper x point)) (length-times d g ∙ long) in
-    let at : get_or (times d g) i (pos 0) ≡ pos d *ℤ t = entry_times d g i (pos 0) (omega (arith, l, long)) ∙ ap (λ z. pos d *ℤ z) (sym is) in
-    (
+    let at : get_or (times d g) i (pos 0) ≡ pos d *ℤ t = entry_times d g i (pos 0) (omega (arith, l, long)) ∙ ap (λ z. pos d *ℤ z) (sym is) in (
       λ w.
           let p = h.0 w in
           let q = m.0 p.1 in

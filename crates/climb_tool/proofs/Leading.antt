@@ -174,7 +174,7 @@ walk_more p old new steps g n h w long range small first greatest point cells co
     )
 
 flat_length : (n : ℕ) (rows : List (List ℤ)) → AllByRecursion (λ row. length row ≡ n) rows → length (flat_map (λ row. row) rows) ≡ length rows * n
-flat_length n [] h = refl
+flat_length n [] h = omega arith
 flat_length n (r ∷ rows) h = length-append r (flat_map (λ row. row) rows) ∙ omega (arith, h.0, flat_length n rows h.1)
 
 length-step_rows : (steps : List Step) → length (step_rows steps) ≡ length steps

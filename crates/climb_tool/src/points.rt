@@ -41,7 +41,11 @@ pub(crate) fn stays_within(upper: &[i64], x: &[i64], candidate: Candidate<'_>) -
     ensures { IsTrue result ↔ IsWithinBounds upper.now (add x.now (vector_of candidate.entry)) }
 {
     for i in 0..upper.len() {
-        if !fits(upper[i], x[i], turned_entry(candidate.negative, candidate.vector[i])) {
+        if !fits(
+            upper[i],
+            x[i],
+            turned_entry(candidate.negative, candidate.vector[i]),
+        ) {
             return false;
         }
     }

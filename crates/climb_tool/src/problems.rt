@@ -1,6 +1,6 @@
 //! A problem: the matrix, the set of vectors, the costs, the bounds and the start.
 ghost use Rattle.std.specs.Prelude.{◌≡◌, ◌≤◌, ◌*◌, length, map, nat_abs, OnOk};
-ghost use Rattle.climb_tool.specs.Problems.{has_columns, is_row, unless, shapes, is_large, is_negative, is_outside, outside_bounds, first_true, numbers, accepted, HasShapes, IsProblem};
+ghost use Rattle.climb_tool.specs.Problems.{has_columns, is_row, unless, shapes, is_large, is_negative, is_outside, outside_bounds, first_true, unless_column, numbers, accepted, HasShapes, IsProblem};
 ghost use Rattle.std.specs.List.{AllByRecursion};
 ghost use Rattle.int_vector.specs.Range.{InRange};
 ghost use Rattle.climb_tool.specs.Paths.{IsWithinBounds};
@@ -76,10 +76,26 @@ fn check_shapes(problem: &Problem) -> Result<(), Stop>
     ensures stands { OnOk result (HasShapes problem.now) }
 {
     let columns = problem.mat.cols;
-    unless(has_columns(&problem.set, columns), ClimbFile::Gra, &problem.set)?;
-    unless(is_row(&problem.cost, columns), ClimbFile::Cost, &problem.cost)?;
-    unless(is_row(&problem.upper, columns), ClimbFile::Upper, &problem.upper)?;
-    unless(is_row(&problem.start, columns), ClimbFile::Start, &problem.start)
+    unless(
+        has_columns(&problem.set, columns),
+        ClimbFile::Gra,
+        &problem.set,
+    )?;
+    unless(
+        is_row(&problem.cost, columns),
+        ClimbFile::Cost,
+        &problem.cost,
+    )?;
+    unless(
+        is_row(&problem.upper, columns),
+        ClimbFile::Upper,
+        &problem.upper,
+    )?;
+    unless(
+        is_row(&problem.start, columns),
+        ClimbFile::Start,
+        &problem.start,
+    )
 }
 
 // The first column, counted from 1, whose cost is too large.

@@ -199,7 +199,14 @@ fn finish<F: Folder, O: Sink>(
         return Err(Stop::Usage);
     };
     match read_problem(alloc, folder, command.project) {
-        Ok(problem) => conclude(alloc, command.project, command.budget, &problem, folder, out),
+        Ok(problem) => conclude(
+            alloc,
+            command.project,
+            command.budget,
+            &problem,
+            folder,
+            out,
+        ),
         Err(stop) => Err(stop),
     }
 }

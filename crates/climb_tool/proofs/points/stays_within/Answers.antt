@@ -63,8 +63,7 @@ returns c =
     let upper : List ℤ = c.args.upper.now in
     let x : List ℤ = c.args.x.now in
     let g : List ℤ = vector_of c.args.candidate in
-    let l : length upper ≤ c.loop-i.i = omega arith in
-    (
+    let l : length upper ≤ c.loop-i.i = omega arith in (
       λ e. c.loop-i.invariant.1
           (within_end upper x g c.loop-i.i l (sym (within_length upper x c.requires.point)) (length-turned c.args.candidate.negative c.args.candidate.vector.now ∙ c.requires.vector)),
       λ w. refl,
