@@ -1,1 +1,6 @@
+pub mod Columns
+pub mod Entries
+pub mod Choices
 pub mod Optimal
+pub mod Leading
+pub mod Concluding

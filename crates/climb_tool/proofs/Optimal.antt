@@ -22,6 +22,7 @@ use Rattle.system_files.specs.Basis.{IsGraverBasis}
 use Rattle.system_files.proofs.Negatives.{negated_twice}
 use Rattle.system_files.proofs.Kernels.{kernel_closed}
 use Rattle.system_files.proofs.Bases.{IsHalf, basis_is_half, half_has}
+use Rattle.climb_tool.proofs.Entries.{length-times}
 use Rattle.climb_tool.specs.Paths.{IsWithinBounds, times, Helps, candidates, NoneHelps, Step, IsStep, after_step, IsOptimal}
 
 -- ---- the candidates
@@ -161,14 +162,10 @@ swap_product c a x =
       ap (λ n. c * n) (product_is a x).1,
     ))
 
-dot-times : (c : ℕ) (row g : List ℤ) → dot row (times c g) ≡ pos c *ℤ dot row g
+pub dot-times : (c : ℕ) (row g : List ℤ) → dot row (times c g) ≡ pos c *ℤ dot row g
 dot-times c [] g = grind (arith, ints)
 dot-times c (r ∷ row) [] = grind (arith, ints)
 dot-times c (r ∷ row) (x ∷ g) = ap₂ (λ p q. p +ℤ q) (swap_product c r x) (dot-times c row g) ∙ sym (mul-add (pos c) (r *ℤ x) (dot row g))
-
-length-times : (c : ℕ) (g : List ℤ) → length (times c g) ≡ length g
-length-times c [] = refl
-length-times c (x ∷ g) = ap suc (length-times c g)
 
 falling : (c : ℕ) (p q : ℤ) → 1 ≤ c → q <ℤ pos 0 → (p +ℤ (pos c *ℤ q)) <ℤ p
 falling c p q h l = grind (arith, ints)

@@ -1,0 +1,12 @@
+use Rattle.std.proofs.Common.{subst}
+use Rattle.std.specs.Prelude.{List, ℕ}
+use Rattle.climb_tool.specs.Ends.{Says}
+use Rattle.climb_tool.proofs.top.run_climb.Goals as goal
+
+pub returns-clause-ends : goal.returns-clause-ends
+returns-clause-ends g c = (
+  c.finish-outcome.result,
+  c.end-end.ensures,
+  subst (λ (p : List ℕ). Says p c.finish-outcome.result (g.E.Sink.held c.args.err.now) (g.E.Sink.held c.say.new.err)) c.project_or_nothing.ensures c.say.ensures,
+  c.finish-outcome.ensures.ends,
+)
