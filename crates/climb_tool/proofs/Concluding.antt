@@ -11,7 +11,7 @@ use Rattle.outside.specs.Pieces.{MayPut}
 use Rattle.mat_files.specs.Cells.{Matrix}
 use Rattle.mat_files.specs.Printed.{text_of}
 use Rattle.solution_files.specs.Outputs.{written, MayWrite, grid_of, text_of_rows}
-use Rattle.solution_files.proofs.TextLemmas.{text_of-rows}
+use Rattle.solution_files.proofs.GridText.{text_of-rows}
 use Rattle.system_files.specs.Kernel.{rows_in}
 use Rattle.tool_frame.specs.Outputs.{OutputFile, IsCut, Traces}
 use Rattle.climb_tool.specs.declared.ends.Stop.{Stop}

@@ -166,7 +166,7 @@ EndsWith project p budget t (Err (CostRange j)) = ⊥
 EndsWith project p budget t (Err (UpperRange j)) = ⊥
 EndsWith project p budget t (Err (Infeasible j)) = ⊥
 
--- the end is the one that the words and the files decide, and this is what stands then; a device's fault and want of memory come by themselves
+-- the end is the one that the words and the files decide, and this is what stands then; a device's fault and running out of memory come by themselves
 abbrev pub Ends : Result Plan Stop → Traces → Result Reached Stop → Type 0
 Ends plan t (Ok reached) = (p : Plan) × (plan ≡ Ok p) × IsDone p.project p.problem p.budget t reached
 Ends plan t (Err (NotKernel row)) = (p : Plan) × (plan ≡ Ok p) × FirstOutside (rows_in p.problem.mat) (rows_in p.problem.set) (Some row) × IsUntouched t

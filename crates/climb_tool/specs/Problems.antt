@@ -155,7 +155,7 @@ planned words files = do
   problem ← problem_in command.project files
   Ok (record { project = command.project; budget = command.budget; problem = problem })
 
--- the step's answer is the expected one; a device's fault and want of memory come by themselves
+-- the step's answer is the expected one; a device's fault and running out of memory come by themselves
 abbrev pub FailsAs : {A : Type 0} → Stop → Result A Stop → Type 0
 FailsAs Usage expected = expected ≡ Err Usage
 FailsAs (File f fault) expected = expected ≡ Err (File f fault)
