@@ -1,7 +1,6 @@
 //! The Keep that writes backups.
 
-ghost use Rattle.std.specs.Prelude.{◌≡◌, ◌≤◌, ◌∷◌, [], Option};
-ghost use Rattle.std.specs.Option.{option_map};
+ghost use Rattle.std.specs.Prelude.{◌≡◌, ◌≤◌, ◌∷◌, [], Option, Some};
 
 use lift_run::Keep;
 use outside::{Folder, PutEnd, SureFolder, Words};
@@ -10,13 +9,18 @@ use stage_store::Stage;
 use std::alloc::Global;
 use std::mem;
 
-/// How the backups stand, as plain data: the files, the names of which the first is next, the interval, and how many norms
-/// are left to the next backup. It is the state of a `Backup`, and is never made.
+/// How the backups stand, as plain data. It is the state of a `Backup`, and is never made.
 #[derive(Drop)]
 pub struct BackupState {
-    pub files: SureFolder,
+    /// Which folder is lent, as the number of the borrow.
+    pub lent: u64,
+    /// The files, where the folder tells them.
+    pub files: Option<SureFolder>,
+    /// The two names, the next one first.
     pub names: Words,
+    /// A backup is written after every so many closed norms.
     pub interval: u32,
+    /// How many norms are left to the next backup.
     pub left: u32,
 }
 
@@ -42,6 +46,7 @@ impl<'a, F: Folder> Backup<'a, F> {
     ) -> Backup<'a, F>
         requires { 1 ≤ interval }
         ensures folder { result.folder.now ≡ folder.old }
+        ensures same_reference { result.folder.ghost_name ≡ folder.entry.ghost_name }
         ensures names { (result.next.now ≡ next.now) × (result.other.now ≡ other.now) }
         ensures interval { (result.interval ≡ interval) × (result.left ≡ interval) }
     {
@@ -68,7 +73,7 @@ impl<'a, F: Folder> Keep for Backup<'a, F> {
 
     ghost use Rattle.backups.specs.Backups.{after_norm, MayBackUp};
 
-    ghost state = { λ b. option_map (λ files. record { files = files; names = b.next.now ∷ b.other.now ∷ []; interval = b.interval; left = b.left }) (F.held b.folder.now) };
+    ghost state = { λ b. Some (record { lent = b.folder.ghost_name; files = F.held b.folder.now; names = b.next.now ∷ b.other.now ∷ []; interval = b.interval; left = b.left }) };
 
     ghost faults = { λ b. F.faults b.folder.now };
 
