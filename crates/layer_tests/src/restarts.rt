@@ -8,6 +8,8 @@ use lift_run::{Keep, Limits, run_system};
 use outside::SureFolder;
 use std::alloc::{AllocError, Global};
 use std::test::Fail;
+use std::thread::Threads;
+use worker_gate::FreeGate;
 
 // Stage 2 at norm 2 of the system below.
 const LAST: &[u8] = b"restart 2
@@ -37,8 +39,13 @@ fn system(alloc: Global) -> Result<System, AllocError> {
 }
 
 // Whether the run finishes that tells the Keep of its norms.
-fn finishes<K: Keep>(alloc: Global, keep: &mut K) -> Result<bool, AllocError> {
-    Ok(run_system(alloc, system(alloc)?, Limits::default(), keep).is_ok())
+fn finishes<R: Threads + Sync, K: Keep>(
+    rt: &R,
+    alloc: Global,
+    keep: &mut K,
+) -> Result<bool, AllocError> {
+    let system = system(alloc)?;
+    Ok(run_system(rt, alloc, system, Limits::default(), &FreeGate, keep).is_ok())
 }
 
 // The run closes two norms at each of two stages, so the fourth backup stands under the second name.
@@ -47,6 +54,7 @@ fn last_backup_holds_the_last_stage(rt: HostRuntime) -> Result<(), Fail> {
     let alloc = rt.alloc();
     let mut folder = SureFolder::new(alloc);
     let finished = finishes(
+        &rt,
         alloc,
         &mut Backup::new(alloc, &mut folder, "P.ckp0", "P.ckp1", 1),
     )?;

@@ -13,6 +13,7 @@ use stage_store::Finish;
 use std::alloc::{AllocError, Global};
 use std::process::Abort;
 use std::test::Fail;
+use worker_gate::FreeGate;
 
 #[derive(Clone, Copy)]
 enum Input {
@@ -87,7 +88,7 @@ fn told(alloc: Global, answer: &Result<Finish, RunEnd>) -> Result<String, AllocE
 #[test]
 fn ends_as_the_limits_say(rt: HostRuntime) -> Result<(), Fail> {
     let alloc = rt.alloc();
-    let Limits { pairs, rows } = Limits::default();
+    let Limits { pairs, rows, .. } = Limits::default();
     for (input, pairs, rows, want) in [
         (Input::Double, pairs, rows, "2 pairs [2, 1]"),
         (Input::Double, pairs, 4, "2 pairs [2, 1]"),
@@ -98,10 +99,12 @@ fn ends_as_the_limits_say(rt: HostRuntime) -> Result<(), Fail> {
         (Input::PastTheEdge, pairs, rows, "overflow 2 [3, 1, 0]"),
     ] {
         let limits = Limits {
+            workers: Limits::DEFAULT_WORKERS,
             pairs: pairs.min(Limits::MAX_PAIRS),
             rows: rows.clamp(1, Limits::MAX_ROWS),
         };
-        let answer = run_system(alloc, system(alloc, input)?, limits, &mut NoKeep);
+        let system = system(alloc, input)?;
+        let answer = run_system(&rt, alloc, system, limits, &FreeGate, &mut NoKeep);
         assert_eq!(rt; told(alloc, &answer)?.as_str(), want);
     }
     Ok(())
@@ -183,7 +186,8 @@ fn few_rows_are_compared(rt: HostRuntime) -> Result<(), Fail> {
     let signs = Vec::from_slice(alloc, &[2; 18])?;
     let caps = Vec::from_slice(alloc, &[None; 18])?;
     let system = System::build(Tool::Graver, 18, 18, sums_of_tables(alloc)?, signs, caps);
-    let Ok(finish) = run_system(alloc, system, Limits::default(), &mut NoKeep) else {
+    let limits = Limits::default();
+    let Ok(finish) = run_system(&rt, alloc, system, limits, &FreeGate, &mut NoKeep) else {
         panic!(&rt; "the run does not finish");
     };
     let rows = all_with_zero(alloc, &finish.rows)?;

@@ -7,9 +7,12 @@ use outside::PutEnd;
 use stage_store::LiftEnd;
 use std::alloc::AllocError;
 
-/// The most pairs and listed rows that a run may have. (The number of workers is not among them yet.)
+/// How many workers a run has, and the most pairs and listed rows that it may have. What a run gives is the same for every
+/// number of workers.
 #[derive(Clone, Copy, Debug, PartialEq, Eq)]
 pub struct Limits {
+    /// How many workers work out a norm: 1 to 32.
+    pub workers: u32,
     /// The most pairs that may be used, those of all stages together: at most 2^62.
     pub pairs: u64,
     /// The most rows that a stage may list: 1 to 2^21.
@@ -17,6 +20,10 @@ pub struct Limits {
 }
 
 impl Limits {
+    /// The greatest number of workers.
+    pub const MAX_WORKERS: u32 = 32;
+    /// The number of workers where none is asked for.
+    pub const DEFAULT_WORKERS: u32 = 4;
     /// The greatest budget of pairs.
     pub const MAX_PAIRS: u64 = 4_611_686_018_427_387_904;
     /// The greatest budget of rows.
@@ -28,12 +35,13 @@ impl Limits {
 }
 
 impl Default for Limits {
-    ghost use Rattle.lift_run.specs.declared.ends.TheConstants.Limits.{DEFAULT_PAIRS, DEFAULT_ROWS};
+    ghost use Rattle.lift_run.specs.declared.ends.TheConstants.Limits.{DEFAULT_PAIRS, DEFAULT_ROWS, DEFAULT_WORKERS};
 
-    ghost is_default = { λ l. (l.pairs ≡ DEFAULT_PAIRS) × (l.rows ≡ DEFAULT_ROWS) };
+    ghost is_default = { λ l. (l.pairs ≡ DEFAULT_PAIRS) × (l.rows ≡ DEFAULT_ROWS) × (l.workers ≡ DEFAULT_WORKERS) };
 
     fn default() -> Limits {
         Limits {
+            workers: Limits::DEFAULT_WORKERS,
             pairs: Limits::DEFAULT_PAIRS,
             rows: Limits::DEFAULT_ROWS,
         }

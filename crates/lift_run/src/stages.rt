@@ -11,21 +11,29 @@ ghost use Rattle.lift_run.specs.Inside.Steps.{AllowsNext, ListsNorm, ClosesNorm,
 
 use crate::ends::{Limits, Place, RunEnd};
 use crate::keeping::Keep;
+use crate::norms::norm_sums;
 use lift_core::System;
 use stage_store::{Finish, Lifted, Next, PublishEnd, Stage};
 use std::alloc::Global;
+use std::thread::Threads;
+use worker_gate::Gate;
 
 /// Runs the lifting of a system from its first stage on, to the minimal solutions of all its equations or to the first
-/// limit that it meets. The Keep is told of each norm that is closed, in order, each once.
+/// limit that it meets. Each norm is worked out by `limits.workers` workers, and the gate is told the points that they
+/// pass. The Keep is told of each norm that is closed, in order, each once.
 ///
 /// # Errors
 /// As `run`.
-pub fn run_system<K: Keep>(
+pub fn run_system<R: Threads + Sync, G: Gate + Sync, K: Keep>(
+    rt: &R,
     alloc: Global,
     system: System,
     limits: Limits,
+    gate: &G,
     keep: &mut K,
 ) -> Result<Finish, RunEnd>
+    requires workers { 1 ≤ limits.workers }
+    requires most { limits.workers ≤ Limits.MAX_WORKERS }
     requires pairs { limits.pairs ≤ Limits.MAX_PAIRS }
     requires some_rows { 1 ≤ limits.rows }
     requires rows { limits.rows ≤ Limits.MAX_ROWS }
@@ -38,24 +46,29 @@ pub fn run_system<K: Keep>(
     ensures cause { HasKeepCause (K.faults keep.old) (K.faults keep.new) result }
 {
     let first = Stage::first(alloc, system)?;
-    run(alloc, first, limits, keep)
+    run(rt, alloc, first, limits, gate, keep)
 }
 
 /// Runs the lifting from a stage on: it closes each norm of each stage in turn, until a stage of the last equation is
-/// finished or a limit is met. The Keep is told of each norm that is closed, in order, each once. What is finished is
-/// handed back, and the Keep stays as it was.
+/// finished or a limit is met. Each norm is worked out by `limits.workers` workers, and the gate is told the points that
+/// they pass. The Keep is told of each norm that is closed, in order, each once. What is finished is handed back, and the
+/// Keep stays as it was.
 ///
 /// # Errors
 /// At each next norm of a stage, Overflow where that norm is above 2^63-1, else Pairs where closing it would use more pairs
 /// than the limit, else Rows where closing it would list more rows than the limit, else Failed or Memory where the Keep
 /// answered so. Where there is no next norm, Overflow where the next equation's product with a solution leaves the range,
 /// with the first such solution by norm and then lexicographically. Memory where memory ran out.
-pub fn run<K: Keep>(
+pub fn run<R: Threads + Sync, G: Gate + Sync, K: Keep>(
+    rt: &R,
     alloc: Global,
     from: Lifted,
     limits: Limits,
+    gate: &G,
     keep: &mut K,
 ) -> Result<Finish, RunEnd>
+    requires workers { 1 ≤ limits.workers }
+    requires most { limits.workers ≤ Limits.MAX_WORKERS }
     requires pairs { limits.pairs ≤ Limits.MAX_PAIRS }
     requires some_rows { 1 ≤ limits.rows }
     requires rows { limits.rows ≤ Limits.MAX_ROWS }
@@ -70,27 +83,31 @@ pub fn run<K: Keep>(
     match from {
         Lifted::Next(stage) => {
             stage.keeps();
-            run_stages(alloc, stage, limits, keep)
+            run_stages(rt, alloc, stage, limits, gate, keep)
         }
         Lifted::Last(finish) => Ok(finish),
     }
 }
 
 // Runs over this stage and those after it.
-fn run_stages<K: Keep>(
+fn run_stages<R: Threads + Sync, G: Gate + Sync, K: Keep>(
+    rt: &R,
     alloc: Global,
     first: Stage,
     limits: Limits,
+    gate: &G,
     keep: &mut K,
 ) -> Result<Finish, RunEnd>
-    requires { limits.rows ≤ Limits.MAX_ROWS }
+    requires workers { 1 ≤ limits.workers }
+    requires most { limits.workers ≤ Limits.MAX_WORKERS }
+    requires rows { limits.rows ≤ Limits.MAX_ROWS }
     ensures runs { RunsFrom K.after K.torn (bounds limits) first (K.state keep.old) (K.state keep.new) result }
     ensures told { is_some (K.state keep.new) ≡ is_some (K.state keep.old) }
     ensures cause { HasKeepCause (K.faults keep.old) (K.faults keep.new) result }
 {
     let mut stage = first;
     loop {
-        run_stage(alloc, &mut stage, limits, keep)?;
+        run_stage(rt, alloc, &mut stage, limits, gate, keep)?;
         match stage.lift()? {
             Lifted::Next(next) => stage = next,
             Lifted::Last(finish) => return Ok(finish),
@@ -99,19 +116,23 @@ fn run_stages<K: Keep>(
 }
 
 // Closes the norms of the stage until there is no next one.
-fn run_stage<K: Keep>(
+fn run_stage<R: Threads + Sync, G: Gate + Sync, K: Keep>(
+    rt: &R,
     alloc: Global,
     stage: &mut Stage,
     limits: Limits,
+    gate: &G,
     keep: &mut K,
 ) -> Result<(), RunEnd>
-    requires { limits.rows ≤ Limits.MAX_ROWS }
+    requires workers { 1 ≤ limits.workers }
+    requires most { limits.workers ≤ Limits.MAX_WORKERS }
+    requires rows { limits.rows ≤ Limits.MAX_ROWS }
     ensures closes { ClosesAll K.after K.torn (bounds limits) stage.old stage.new (K.state keep.old) (K.state keep.new) result }
     ensures told { is_some (K.state keep.new) ≡ is_some (K.state keep.old) }
     ensures cause { HasKeepCause (K.faults keep.old) (K.faults keep.new) result }
 {
     while let Some(norm) = next_within(stage, limits)? {
-        close_norm(alloc, stage, norm, limits, keep)?;
+        close_norm(rt, alloc, stage, norm, limits, gate, keep)?;
     }
     Ok(())
 }
@@ -144,32 +165,45 @@ fn next_within(stage: &Stage, limits: Limits) -> Result<Option<u64>, RunEnd>
 }
 
 // Lists the rows of the next norm, and tells the Keep.
-fn close_norm<K: Keep>(
+fn close_norm<R: Threads + Sync, G: Gate + Sync, K: Keep>(
+    rt: &R,
     alloc: Global,
     stage: &mut Stage,
     norm: u64,
     limits: Limits,
+    gate: &G,
     keep: &mut K,
 ) -> Result<(), RunEnd>
     requires allowed { IsAllowed (bounds limits) stage.old norm }
+    requires workers { 1 ≤ limits.workers }
+    requires most { limits.workers ≤ Limits.MAX_WORKERS }
     requires rows { limits.rows ≤ Limits.MAX_ROWS }
     ensures closes { ClosesNorm K.after K.torn (bounds limits) norm stage.old stage.new (K.state keep.old) (K.state keep.new) result }
     ensures told { is_some (K.state keep.new) ≡ is_some (K.state keep.old) }
     ensures cause { HasKeepCause (K.faults keep.old) (K.faults keep.new) result }
 {
-    list_norm(alloc, stage, norm, limits)?;
+    list_norm(rt, alloc, stage, norm, limits, gate)?;
     keep.norm_closed(stage)?;
     Ok(())
 }
 
 // Lists the rows of the next norm.
-fn list_norm(alloc: Global, stage: &mut Stage, norm: u64, limits: Limits) -> Result<(), RunEnd>
+fn list_norm<R: Threads + Sync, G: Gate + Sync>(
+    rt: &R,
+    alloc: Global,
+    stage: &mut Stage,
+    norm: u64,
+    limits: Limits,
+    gate: &G,
+) -> Result<(), RunEnd>
     requires allowed { IsAllowed (bounds limits) stage.old norm }
+    requires workers { 1 ≤ limits.workers }
+    requires most { limits.workers ≤ Limits.MAX_WORKERS }
     requires rows { limits.rows ≤ Limits.MAX_ROWS }
     ensures lists { ListsNorm (bounds limits) norm stage.old stage.new result }
     ensures sure { result ≡ Err RunEnd.Failed → ⊥ }
 {
-    let closed = stage.sums(alloc, norm)?;
+    let closed = norm_sums(rt, alloc, stage, norm, limits.workers, gate)?;
     match stage.publish(&closed, limits.rows) {
         Ok(()) => Ok(()),
         Err(PublishEnd::Rows { count }) => Err(RunEnd::Rows {

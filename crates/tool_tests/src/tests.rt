@@ -4,7 +4,9 @@ use lift_core::Tool;
 use outside::{MemFolder, MemSink, Words};
 use std::alloc::Global;
 use std::test::Fail;
+use std::thread::Threads;
 use tool_top::run_tool;
+use worker_gate::FreeGate;
 
 // A project's file, by its ending, and its text.
 type Text = (&'static str, &'static str);
@@ -113,12 +115,21 @@ fn words_of(alloc: Global, words: &[&str]) -> Result<Words, Fail> {
 }
 
 // What a run of the case comes to.
-fn outcome(alloc: Global, case: &Case) -> Result<String, Fail> {
+fn outcome<R: Threads + Sync>(rt: &R, alloc: Global, case: &Case) -> Result<String, Fail> {
     let mut folder = folder_of(alloc, case.input, case.failing.0)?;
     let words = words_of(alloc, case.words)?;
     let mut out = MemSink::new(alloc, case.failing.1.to_vec(alloc)?);
     let mut err = MemSink::new(alloc, Vec::new(alloc));
-    let status = run_tool(alloc, case.tool, &words, &mut folder, &mut out, &mut err);
+    let status = run_tool(
+        rt,
+        alloc,
+        case.tool,
+        &words,
+        &mut folder,
+        &mut out,
+        &mut err,
+        &FreeGate,
+    );
     let end = format!(in alloc; "{} {:?}", status.code, status.end)?;
     let put = text(alloc, out.bytes())?;
     let said = text(alloc, err.bytes())?;
@@ -144,10 +155,14 @@ fn wanted(alloc: Global, case: &Case) -> Result<String, Fail> {
 }
 
 // What came and what was to come, for each case where these differ.
-fn differences(alloc: Global, cases: &[Case]) -> Result<String, Fail> {
+fn differences<R: Threads + Sync>(
+    rt: &R,
+    alloc: Global,
+    cases: &[Case],
+) -> Result<String, Fail> {
     let mut shown = String::new(alloc);
     for case in cases {
-        let came = outcome(alloc, case)?;
+        let came = outcome(rt, alloc, case)?;
         let due = wanted(alloc, case)?;
         if came.as_str() != due.as_str() {
             shown.push_str("came: ")?;
@@ -168,7 +183,7 @@ fn three_unit_vectors_are_written(rt: HostRuntime) -> Result<(), Fail> {
         &[(".hil", "3 3\n0 0 1\n0 1 0\n1 0 0\n")],
         "3 solutions, 0 pairs\n",
     )];
-    assert_eq!(rt; differences(rt.alloc(), &cases)?.as_str(), "");
+    assert_eq!(rt; differences(&rt, rt.alloc(), &cases)?.as_str(), "");
     Ok(())
 }
 
@@ -300,7 +315,7 @@ fn minimal_solutions_are_written(rt: HostRuntime) -> Result<(), Fail> {
             "0 solutions, 2 pairs\n",
         ),
     ];
-    assert_eq!(rt; differences(rt.alloc(), &cases)?.as_str(), "");
+    assert_eq!(rt; differences(&rt, rt.alloc(), &cases)?.as_str(), "");
     Ok(())
 }
 
@@ -338,7 +353,7 @@ fn seventeen_by_seventeen_have_all_pairs(rt: HostRuntime) -> Result<(), Fail> {
     let out = "289 solutions, 289 pairs\n";
     let files = format!(in alloc; ".hil\n289 34\n{}", pair_rows(alloc)?)?;
     let due = report(alloc, end, out, "", files.as_str())?;
-    assert_eq!(rt; outcome(alloc, &case)?.as_str(), due.as_str());
+    assert_eq!(rt; outcome(&rt, alloc, &case)?.as_str(), due.as_str());
     Ok(())
 }
 
@@ -352,12 +367,14 @@ fn a_long_file_is_not_read(rt: HostRuntime) -> Result<(), Fail> {
     let mut out = MemSink::new(alloc, Vec::new(alloc));
     let mut err = MemSink::new(alloc, Vec::new(alloc));
     let status = run_tool(
+        &rt,
         alloc,
         Tool::Hilbert,
         &words,
         &mut folder,
         &mut out,
         &mut err,
+        &FreeGate,
     );
     let end = format!(in alloc; "{} {:?}", status.code, status.end)?;
     let said = text(alloc, err.bytes())?;
@@ -504,7 +521,7 @@ fn the_first_fault_is_the_end(rt: HostRuntime) -> Result<(), Fail> {
             "hilbert: overflow at equation 2: solution 3 1 0\n",
         ),
     ];
-    assert_eq!(rt; differences(rt.alloc(), &cases)?.as_str(), "");
+    assert_eq!(rt; differences(&rt, rt.alloc(), &cases)?.as_str(), "");
     Ok(())
 }
 
@@ -595,7 +612,7 @@ fn words_and_caps_are_obeyed(rt: HostRuntime) -> Result<(), Fail> {
             "2 solutions, 12 pairs\n",
         ),
     ];
-    assert_eq!(rt; differences(rt.alloc(), &cases)?.as_str(), "");
+    assert_eq!(rt; differences(&rt, rt.alloc(), &cases)?.as_str(), "");
     Ok(())
 }
 
@@ -659,6 +676,6 @@ fn a_device_fault_is_named(rt: HostRuntime) -> Result<(), Fail> {
             )
         },
     ];
-    assert_eq!(rt; differences(rt.alloc(), &cases)?.as_str(), "");
+    assert_eq!(rt; differences(&rt, rt.alloc(), &cases)?.as_str(), "");
     Ok(())
 }

@@ -11,6 +11,7 @@ use std::fs::File;
 use std::io::ErrorKind;
 use std::process::ExitCode;
 use std::{env, io};
+use worker_gate::FreeGate;
 
 // A file that is always there, and empty.
 const NOTHING: &str = "/dev/null";
@@ -61,6 +62,15 @@ pub fn run_program(rt: &HostRuntime, tool: Tool) -> ExitCode {
     };
     let mut folder = DirFolder::new(rt);
     let mut out = StdSink::out(rt);
-    let status = run_tool(rt.alloc(), tool, &words, &mut folder, &mut out, &mut err);
+    let status = run_tool(
+        rt,
+        rt.alloc(),
+        tool,
+        &words,
+        &mut folder,
+        &mut out,
+        &mut err,
+        &FreeGate,
+    );
     ExitCode::from(status.code)
 }

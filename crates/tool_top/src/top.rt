@@ -27,9 +27,11 @@ use lift_core::Tool;
 use lift_run::{Limits, NoKeep, run_system};
 use outside::{Folder, Sink, Words};
 use std::alloc::Global;
+use std::thread::Threads;
 use system_files::{InputStop, Shaped, read_shaped, shape_input};
 use system_shape::tables;
 use tool_words::{Job, WordEnd, read_words};
+use worker_gate::Gate;
 
 // The project's name, empty where there is none.
 fn project_of(job: &Job) -> &str
@@ -80,13 +82,15 @@ fn tell<O: Sink>(out: &mut O, job: &Job, outputs: &Outputs, pairs: u64) -> Resul
 }
 
 // Solves the system of a project, writes the output files, and tells the summary.
-fn carry_out<F: Folder, O: Sink>(
+fn carry_out<R: Threads + Sync, F: Folder, O: Sink, G: Gate + Sync>(
+    rt: &R,
     alloc: Global,
     tool: Tool,
     job: &Job,
     shaped: Shaped,
     folder: &mut F,
     out: &mut O,
+    gate: &G,
 ) -> Result<Totals, End>
     requires shaped { IsShaped tool shaped.input shaped.system }
     requires within { IsWithinLimits job.now }
@@ -102,10 +106,11 @@ fn carry_out<F: Folder, O: Sink>(
     ensures out_fault { end_of result ≡ End.Outside Part.Out → Rose (O.faults out.old) (O.faults out.new) }
 {
     let limits = Limits {
+        workers: job.workers,
         pairs: job.pairs,
         rows: job.rows,
     };
-    let finish = run_system(alloc, shaped.system, limits, &mut NoKeep)?;
+    let finish = run_system(rt, alloc, shaped.system, limits, gate, &mut NoKeep)?;
     let outputs = select_outputs(alloc, &finish)?;
     write_job(alloc, job, folder, &outputs)?;
     tell(out, job, &outputs, finish.pairs)
@@ -166,12 +171,14 @@ fn write_job<F: Folder>(
 }
 
 // All steps behind the words, to the numbers of the run or the end that comes before them.
-fn attempt<F: Folder, O: Sink>(
+fn attempt<R: Threads + Sync, F: Folder, O: Sink, G: Gate + Sync>(
+    rt: &R,
     alloc: Global,
     tool: Tool,
     job: &Job,
     folder: &mut F,
     out: &mut O,
+    gate: &G,
 ) -> Result<Totals, End>
     requires { IsWithinLimits job.now }
     ensures ends { IfSome (F.held folder.old) (λ files. Ends (plan_of tool job.now files)
@@ -185,7 +192,7 @@ fn attempt<F: Folder, O: Sink>(
     ensures out_fault { end_of result ≡ End.Outside Part.Out → Rose (O.faults out.old) (O.faults out.new) }
 {
     let shaped = read_job(alloc, tool, job, folder)?;
-    carry_out(alloc, tool, job, shaped, folder, out)
+    carry_out(rt, alloc, tool, job, shaped, folder, out, gate)
 }
 
 // Puts the line of an end that is not Done. Where that is refused, nothing else changes.
@@ -199,13 +206,15 @@ fn speak<E: Sink>(tool: Tool, project: &str, end: &End, err: &mut E)
 }
 
 // The end of the job of the words, or of words that are refused, with its line.
-fn finish<F: Folder, O: Sink, E: Sink>(
+fn finish<R: Threads + Sync, F: Folder, O: Sink, E: Sink, G: Gate + Sync>(
+    rt: &R,
     alloc: Global,
     tool: Tool,
     job: Result<Job, WordEnd>,
     folder: &mut F,
     out: &mut O,
     err: &mut E,
+    gate: &G,
 ) -> End
     requires { IfOk job IsWithinLimits }
     ensures ends { (asked : Option Job) → Asks asked job
@@ -226,7 +235,7 @@ fn finish<F: Folder, O: Sink, E: Sink>(
 {
     match job {
         Ok(job) => {
-            let outcome = attempt(alloc, tool, &job, folder, out);
+            let outcome = attempt(rt, alloc, tool, &job, folder, out, gate);
             let end = settle(outcome);
             speak(tool, project_of(&job), &end, err);
             end
@@ -241,7 +250,8 @@ fn finish<F: Folder, O: Sink, E: Sink>(
 
 /// Does all that a command does: reads the project's files from `folder`, solves the system that they say, writes its
 /// minimal solutions, and puts a summary on `out`, unless the words ask for quiet. `words` are the command's words
-/// without the program's name; `--pairs` and `--rows` bound the run.
+/// without the program's name; `--pairs` and `--rows` bound the run, and `--workers` says how many workers share a norm:
+/// no answer depends on their number, nor on `gate`, which is told the points that they pass.
 /// At each end but Done its line is put on `err`, by [`put_message`]; a refusal there changes no status.
 ///
 /// With `--tables=K` (`graver` alone) the system is that of the tables with three rows and K columns whose sums are 0: no
@@ -259,13 +269,15 @@ fn finish<F: Folder, O: Sink, E: Sink>(
 /// (`.mat` alone), [`End::TooLong`], [`End::Text`]; [`End::Refused`] where `.lat`, `.lb` or `.ub` is there;
 /// [`End::Shape`]; [`End::Overflow`], [`End::Pairs`] or [`End::Rows`] as the run comes to it; else [`End::Done`].
 /// [`End::Outside`] may come in place of each but `Usage`, and [`End::Memory`] in place of each.
-pub fn run_tool<F: Folder, O: Sink, E: Sink>(
+pub fn run_tool<R: Threads + Sync, F: Folder, O: Sink, E: Sink, G: Gate + Sync>(
+    rt: &R,
     alloc: Global,
     tool: Tool,
     words: &Words,
     folder: &mut F,
     out: &mut O,
     err: &mut E,
+    gate: &G,
 ) -> Status
     // Where the folder tells its files: at Done, the output files hold exactly the wanted rows of the user's own system,
     // and all other files are as before.
@@ -306,7 +318,7 @@ pub fn run_tool<F: Folder, O: Sink, E: Sink>(
     ensures message { Speaks tool (named_project (job_in tool words.now)) result.end (E.held err.old) (E.held err.new) }
 {
     let job = job_in(alloc, tool, words);
-    let end = finish(alloc, tool, job, folder, out, err);
+    let end = finish(rt, alloc, tool, job, folder, out, err, gate);
     Status {
         code: code(&end),
         end,
