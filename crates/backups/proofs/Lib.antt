@@ -1,1 +1,4 @@
 pub mod Backing
+pub mod Leaving
+pub mod Soundness
+pub mod Coming

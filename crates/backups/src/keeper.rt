@@ -2,6 +2,7 @@
 
 ghost use Rattle.std.specs.Prelude.{◌≡◌, ◌≤◌, ◌∷◌, [], Option, Some};
 
+use crate::Slot;
 use lift_run::Keep;
 use outside::{Folder, PutEnd, SureFolder, Words};
 use restart_file::write_restart;
@@ -31,17 +32,19 @@ pub struct Backup<'a, F> {
     folder: &'a mut F,
     next: &'a str,
     other: &'a str,
+    slot: Slot,
     interval: u32,
     left: u32,
 }
 
 impl<'a, F: Folder> Backup<'a, F> {
-    /// No norm is closed yet. The first backup goes to the file `next`.
+    /// No norm is closed yet. The first backup goes to the file `next`, which is that of the slot.
     pub fn new(
         alloc: Global,
         folder: &'a mut F,
         next: &'a str,
         other: &'a str,
+        slot: Slot,
         interval: u32,
     ) -> Backup<'a, F>
         requires { 1 ≤ interval }
@@ -55,16 +58,17 @@ impl<'a, F: Folder> Backup<'a, F> {
             folder,
             next,
             other,
+            slot,
             interval,
             left: interval,
         }
     }
 
-    /// The name of the file that the next backup goes to; after a refusal the one that was not written.
-    pub fn next_name(&self) -> &str
-        ensures { result.now ≡ self.now.next.now }
+    /// Which file the next backup goes to; after a refusal the one that was not written.
+    pub fn next_slot(&self) -> Slot
+        ensures { result ≡ self.now.slot }
     {
-        self.next
+        self.slot
     }
 }
 
@@ -88,6 +92,7 @@ impl<'a, F: Folder> Keep for Backup<'a, F> {
         }
         write_restart(self.alloc, stage, self.folder, self.next)?;
         mem::swap(&mut self.next, &mut self.other);
+        self.slot = self.slot.other();
         self.left = self.interval;
         Ok(())
     }
