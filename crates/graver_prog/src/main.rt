@@ -6,5 +6,5 @@ use std::process::ExitCode;
 use tool_top::run_program;
 
 fn main(rt: HostRuntime) -> ExitCode {
-    run_program(&rt, Tool::Graver)
+    run_program(&rt, &rt, Tool::Graver)
 }

@@ -10,6 +10,7 @@ use std::alloc::{AllocError, Global};
 use std::fs::File;
 use std::io::ErrorKind;
 use std::process::ExitCode;
+use std::thread::Threads;
 use std::{env, io};
 use worker_gate::FreeGate;
 
@@ -47,7 +48,9 @@ fn refuse<E: Sink>(tool: Tool, end: &End, err: &mut E) -> ExitCode
 /// Runs a command as a program: on the words that the machine gives, in the current folder, with the standard streams.
 /// Gives the exit status of [`run_tool`]; a word that is no UTF-8 text ends with 1, and where memory runs out for the words,
 /// it is 6.
-pub fn run_program(rt: &HostRuntime, tool: Tool) -> ExitCode {
+///
+/// `threads` starts the workers' threads: it is the runtime once more, which has that right in `main` alone.
+pub fn run_program<R: Threads + Sync>(rt: &HostRuntime, threads: &R, tool: Tool) -> ExitCode {
     let _held = hold_closed_streams(rt);
     let mut err = StdSink::err(rt);
     let args = match env::args(rt) {
@@ -63,7 +66,7 @@ pub fn run_program(rt: &HostRuntime, tool: Tool) -> ExitCode {
     let mut folder = DirFolder::new(rt);
     let mut out = StdSink::out(rt);
     let status = run_tool(
-        rt,
+        threads,
         rt.alloc(),
         tool,
         &words,
