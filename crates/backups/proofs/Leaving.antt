@@ -105,3 +105,18 @@ module _ (limits : Limits) (lent n : ℕ) (names : List (List ℕ)) where
   pub same_folder : (held : Option Files) (from : Lifted) (answer : Result Finish RunEnd) (now : BackupState) → TellsKeep after_norm MayBackUp limits from answer (Some (begun_with held)) (Some now) → now.lent ≡ lent
   same_folder held (Next s) answer now h = loan_told held s (end_of answer) now h
   same_folder held (Last f) answer now h = ap (λ (b : BackupState). b.lent) (inside now (begun_with held) h)
+
+-- ---- from any state that begins so
+module _ (limits : Limits) (from : Lifted) (answer : Result Finish RunEnd) (old now : BackupState) (held : Option Files) (n : ℕ) (names : List (List ℕ))
+    (f : old.files ≡ held) (m : old.names ≡ names) (i : old.interval ≡ n) (l : old.left ≡ n) (told_all : TellsKeep after_norm MayBackUp limits from answer (Some old) (Some now)) where
+  as_begun : old ≡ begun_with limits old.lent n names held
+  as_begun = λ j. record { lent = old.lent; files = f j; names = m j; interval = i j; left = l j }
+
+  told_begun : TellsKeep after_norm MayBackUp limits from answer (Some (begun_with limits old.lent n names held)) (Some now)
+  told_begun = subst (λ (b : BackupState). TellsKeep after_norm MayBackUp limits from answer (Some b) (Some now)) as_begun told_all
+
+  pub leaves_all : IfSome held (λ files. LeavesFrom (each limits old.lent n names) limits from (end_of answer) files now.files)
+  leaves_all = leaves_backups limits old.lent n names held from answer now told_begun
+
+  pub same_loan_all : now.lent ≡ old.lent
+  same_loan_all = same_folder limits old.lent n names held from answer now told_begun
