@@ -1,5 +1,7 @@
 -- What a run from a start comes to, and what it leaves.
-use Rattle.std.proofs.Common.{◌≡◌, ◌⊎◌, inl, inr, ℕ, List, refl, sym, ap, ◌∙◌, subst}
+use Rattle.std.proofs.Common.{◌≡◌, ◌≤◌, ◌⊎◌, inl, inr, ℕ, List, refl, sym, ap, ◌∙◌, subst, arith}
+use Rattle.outside.specs.Causes.{Rose}
+use Rattle.lift_run.specs.Keeps.{HasKeepCause}
 use Rattle.std.specs.Prelude.{Option, Some, None, Result, Ok, Err, IfSome, IfOk}
 use Rattle.outside.specs.Files.{Files}
 use Rattle.lift_core.specs.Systems.{ToolSystem}
@@ -10,14 +12,15 @@ use Rattle.stage_store.specs.declared.stage.Finish.{Finish}
 use Rattle.stage_store.specs.declared.stage.Lifted.{Lifted}
 use Rattle.stage_store.specs.declared.stage.Lifted.TheVariants.{Next}
 use Rattle.lift_run.specs.declared.ends.RunEnd.{RunEnd}
+use Rattle.lift_run.specs.declared.ends.RunEnd.TheVariants.{Failed}
 use Rattle.lift_run.specs.Runs.{end_of, AnswersWalk, AnswersEnd, KeepsSystem, IsOfSystem, StageWalks}
 use Rattle.lift_run.proofs.Walking.{run_ends, of_first}
 use Rattle.backups.specs.declared.running.Stopped.{Stopped}
 use Rattle.backups.specs.declared.starts.Slot.{Slot}
 use Rattle.backups.specs.declared.starts.Start.{Start}
 use Rattle.backups.specs.declared.starts.Start.TheVariants.{Fresh, Resumed}
-use Rattle.backups.specs.Starts.{Begins, IsKept, IsDefinedStart, StartComesTo, system_of}
-use Rattle.backups.specs.Standing.{Turns, LeavesFrom, LeavesRun, ended, named_end, IsSoundFrom, AreSolutions}
+use Rattle.backups.specs.Starts.{Begins, IsKept, IsDefinedStart, StartComesTo, system_of, names_from}
+use Rattle.backups.specs.Standing.{Turns, turns_from, LeavesFrom, LeavesRun, ended, named_end, IsSoundFrom, AreSolutions, HasStoppedCause}
 use Rattle.backups.proofs.Soundness.{finished_sound}
 
 both : (named : Option End) (P Q : End → Type 0) (D : Type 0) → IfSome named P → (D → IfSome named Q) → IfSome named (λ e. P e × (D → Q e))
@@ -53,3 +56,26 @@ leaves_from turns limits start from named (Some files) after b h = inl (from, b,
 pub leaves_before : (turns : Turns) (limits : Limits) (start : Start) (held after : Option Files) → after ≡ held → IfSome held (λ files. LeavesRun turns limits start None files after)
 leaves_before turns limits start None after same = tt
 leaves_before turns limits start (Some files) after same = inr (refl, same)
+
+-- ---- an answer, and the file of the next backup
+pub of_ended : (P : Finish → Type 0) (r : Result Finish Stopped) (answer : Result Finish RunEnd) → ended r ≡ answer → IfOk answer P → IfOk r P
+of_ended P (Ok f) answer e h = subst (λ (x : Result Finish RunEnd). IfOk x P) (sym e) h
+of_ended P (Err s) answer e h = tt
+
+pub alone_leaves : (limits : Limits) (from : Lifted) (r : Result Finish Stopped) (answer : Result Finish RunEnd) (slot : Slot) (interval : Option ℕ) (first second : List ℕ) (held : Option Files) → interval ≡ None → ended r ≡ answer
+    → ((names : List (List ℕ)) (files : Files) → LeavesFrom (record { interval = None; names = names }) limits from (end_of answer) files (Some files))
+    → IfSome held (λ files. LeavesFrom (turns_from slot interval first second) limits from (named_end r) files held)
+alone_leaves limits from r answer slot interval first second None is e h = tt
+alone_leaves limits from r answer slot interval first second (Some files) is e h =
+    subst (λ (i : Option ℕ). LeavesFrom (turns_from slot i first second) limits from (named_end r) files (Some files)) (sym is)
+    (subst (λ (x : Result Finish RunEnd). LeavesFrom (turns_from slot None first second) limits from (end_of x) files (Some files)) (sym e) (h (names_from slot first second) files))
+
+pub alone_calm : (r : Result Finish Stopped) (answer : Result Finish RunEnd) (A : Type 0) → ended r ≡ answer → (answer ≡ Err Failed → ⊥) → (s : Stopped) → r ≡ Err s → s.end ≡ Failed → A
+alone_calm r answer A e sure s is failed = absurd (sure (sym e ∙ ap ended is ∙ ap (λ (x : RunEnd). Err x) failed))
+
+-- the Keep's count is that of the folder that it was lent
+pub stop_cause : (r : Result Finish Stopped) (answer : Result Finish RunEnd) (first last before now : ℕ) → ended r ≡ answer → first ≡ before → last ≡ now → HasKeepCause first last answer → HasStoppedCause before now r
+stop_cause r answer first last before now e f l h = record {
+  later = omega (arith, f, l, h.later);
+  failed = λ s is failed. subst (λ x. Rose x now) f (subst (λ y. Rose first y) l (h.failed (sym e ∙ ap ended is ∙ ap (λ (x : RunEnd). Err x) failed)));
+}

@@ -2,3 +2,4 @@ pub mod Backing
 pub mod Leaving
 pub mod Soundness
 pub mod Coming
+pub mod Looking

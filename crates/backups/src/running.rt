@@ -29,7 +29,7 @@ pub struct BackupPlan<'a> {
 impl<'a> BackupPlan<'a> {
     // The name of a file.
     fn name(self, slot: Slot) -> &'a str
-        ensures { result.now ≡ name_of slot self.first.now self.second.now }
+        ensures { result.now ≡ name_of slot self.entry.first.now self.entry.second.now }
     {
         match slot {
             Slot::First => self.first,
@@ -118,7 +118,7 @@ fn run_backed<R: Threads + Sync, F: Folder, G: Gate + Sync>(
     ensures system { IfOk result (KeepsSystem from) }
     ensures rows { IsLiftedDefined from → IfOk result HasAllSolutions }
     ensures leaves { IfSome (F.held folder.old) (λ files.
-        LeavesFrom (turns_from slot (Some interval) plan.first.now plan.second.now) (bounds limits) from (named_end result)
+        LeavesFrom (turns_from slot (Some interval) plan.entry.first.now plan.entry.second.now) (bounds limits) from (named_end result)
         files (F.held folder.new)) }
     ensures cause { HasStoppedCause (F.faults folder.old) (F.faults folder.new) result }
 {
@@ -156,9 +156,9 @@ fn run_from<R: Threads + Sync, F: Folder, G: Gate + Sync>(
     ensures system { IfOk result (KeepsSystem from) }
     ensures rows { IsLiftedDefined from → IfOk result HasAllSolutions }
     ensures leaves { IfSome (F.held folder.old) (λ files.
-        LeavesFrom (turns_from slot plan.interval plan.first.now plan.second.now) (bounds limits) from (named_end result)
+        LeavesFrom (turns_from slot plan.entry.interval plan.entry.first.now plan.entry.second.now) (bounds limits) from (named_end result)
         files (F.held folder.new)) }
-    ensures apart { plan.interval ≡ None → folder.new ≡ folder.old }
+    ensures apart { plan.entry.interval ≡ None → folder.new ≡ folder.old }
     ensures cause { HasStoppedCause (F.faults folder.old) (F.faults folder.new) result }
 {
     match plan.interval {
@@ -201,11 +201,11 @@ pub fn run_start<R: Threads + Sync, F: Folder, G: Gate + Sync>(
 
     // Which backups then stand.
     ensures leaves { IfSome (F.held folder.old) (λ files.
-        LeavesRun (turns_from (first_slot start) plan.interval plan.first.now plan.second.now) (bounds limits) start
+        LeavesRun (turns_from (first_slot start) plan.entry.interval plan.entry.first.now plan.entry.second.now) (bounds limits) start
         (named_end result) files (F.held folder.new)) }
 
     // Without an interval no call of the folder is made.
-    ensures apart { plan.interval ≡ None → folder.new ≡ folder.old }
+    ensures apart { plan.entry.interval ≡ None → folder.new ≡ folder.old }
     ensures cause { HasStoppedCause (F.faults folder.old) (F.faults folder.new) result }
 {
     let slot = start.first_slot();

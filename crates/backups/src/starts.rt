@@ -120,8 +120,9 @@ fn later_of(first: Stage, second: Content) -> Start
 
 // The start where the first file has a fault.
 fn second_or(fault: RestartFault, second: Content) -> Result<Start, StartEnd>
-    ensures { (S : ToolSystem) (files : Stored) → IsContent S files.first (Content.Faulty fault)
+    ensures finds { (S : ToolSystem) (files : Stored) → IsContent S files.first (Content.Faulty fault)
         → IsContent S files.second second → FindsStart S files result }
+    ensures calm { (slot : Slot) → result ≡ Err (StartEnd.Failed slot) → ⊥ }
 {
     match second {
         Content::Accepted(second) => Ok(Start::Resumed(second, Slot::Second)),

@@ -146,11 +146,16 @@ Follows S v (WaitingRow left) p line next =
     × (next ≡ at v (waiting_due (left - 1)) (with_waiting z p))
 Follows S v LastLine p line next = ⊥
 
--- no row stands in the line, or one that is none of the stage, or one that is out of order
-abbrev pub HasRowFault : ToolSystem → ℕ → (List ℤ → Type 0) → List ℕ → ℕ → RestartFault → Type 0
-HasRowFault S k IsNext line l f =
+-- no row stands in the line, or one that is none of stage k
+abbrev pub HasNoStageRow : ToolSystem → ℕ → List ℕ → ℕ → RestartFault → Type 0
+HasNoStageRow S k line l f =
     ((f ≡ Text l) × ((z : List ℤ) → IsRow S line z → ⊥))
     ⊎ ((f ≡ NotSolution l) × ((z : List ℤ) × IsRow S line z × (IsStageRow S.equations k z → ⊥)))
+
+-- no row of stage k stands in the line, or one that is out of order
+abbrev pub HasRowFault : ToolSystem → ℕ → (List ℤ → Type 0) → List ℕ → ℕ → RestartFault → Type 0
+HasRowFault S k IsNext line l f =
+    HasNoStageRow S k line l f
     ⊎ ((f ≡ Order l) × ((z : List ℤ) × IsRow S line z × IsStageRow S.equations k z × (IsNext z → ⊥)))
 
 -- line l is wrong, and this is its first fault
@@ -188,7 +193,7 @@ pub data Reads (S : ToolSystem) : Cursor → ℕ → List ℕ → Result Progres
       → Reads S next (l + 1) rest out
       → Reads S c l bytes out
   reads_fault :
-      {c : Cursor} {l : ℕ} {bytes line rest : List ℕ} {f : RestartFault}
+      {c : Cursor} {l : ℕ} {bytes line : List ℕ} {f : RestartFault} (rest : List ℕ)
       → IsLine line
       → bytes ≡ line ++ rest
       → HasFault S c.version c.due c.so_far line l f

@@ -98,9 +98,6 @@ start_or : Start → Result Start StartEnd → Start
 start_or other (Ok s) = s
 start_or other (Err e) = other
 
-same_start : (x y : Start) → Ok {E = StartEnd} x ≡ Ok y → x ≡ y
-same_start x y e = ap (start_or x) e
-
 -- ---- what an end without a start says
 at_start : (e : StartEnd) (A : Type 0) (p : Part) → ((slot : Slot) → e ≡ start.Failed slot → A) → end_of_start e ≡ Outside p → A
 at_start (start.Refused f g) A p failed is = absurd (cc)
@@ -226,7 +223,7 @@ module _ (tool : Tool) (job : Job) where
   -- a start that was found is the plan's
   found_start : (b : Bool) (S : ToolSystem) (stored : Stored) (s : Start) → FindsStartOf b S stored (Ok s) → Starts b S stored s
   found_start true S stored s h = h
-  found_start false S stored s h = same_start s (Fresh S) h
+  found_start false S stored s h = ap (start_or s) h
 
   -- a run that is carried out ends as its plan says
   pub ends-carried : (input : Input) (held mid last new : Option Files) (told tells : Option (List ℕ)) (S : ToolSystem) (s : Start) (e : End) → mid ≡ held → last ≡ mid
@@ -242,9 +239,9 @@ module _ (tool : Tool) (job : Job) where
       let f : Starts (resumes job) S (stored_of (project_of job) files) s = found_start (resumes job) S (stored_of (project_of job) files) s k in
       let g : StartsAs (with_input input files) s = subst (λ T. Starts (resumes job) T (stored_of (project_of job) files) s) shaped.is f in
       let w : IsShaped tool input (tool_system tool input) = subst (λ T. IsShaped tool input T) shaped.is shaped in
-      let h : EndsOver (Ok (with_input input files)) (Some files) new told tells e =
+      let over : EndsOver (Ok (with_input input files)) (Some files) new told tells e =
       subst (λ m. EndsOver (Ok (with_input input files)) m new told tells e) (same' ∙ same) (ends (stored_of (project_of job) files) w g) in
-      subst (λ p. Ends p (traces files new told tells) e) (sym (plan_is files input found)) h
+      subst (λ p. Ends p (traces files new told tells) e) (sym (plan_is files input found)) over
 
 -- words that are refused
 words_ends : (tool : Tool) (e : WordEnd) (asked : Option Job) → Asks asked (Err e) → (files : Files) (t : Traces) → IsUntouched t
