@@ -94,7 +94,7 @@ refused_both plan f g true is h = record { resumed = is; first_fault = h.0; seco
 refused_both plan f g false is h = absurd (cc)
 
 -- the start that was found
-start_or : Start → Result Start StartEnd → Start
+abbrev start_or : Start → Result Start StartEnd → Start
 start_or other (Ok s) = s
 start_or other (Err e) = other
 
@@ -150,14 +150,14 @@ found-fresh b project S (Some files) is = subst (λ x. FindsStartOf x S (stored_
 
 -- with tables nothing is resumed, and no backup is written
 not_resumed : (tables : Option ℕ) (resume : Bool) → (is_none tables && resume) ≡ true → IsSome tables → ⊥
-not_resumed None resume is some = some
+not_resumed None resume is some = let e : false ≡ true = some in cc
 not_resumed (Some k) resume is some = absurd (cc)
 
 pub apart-resumed : (job : Job) → resumes job ≡ true → IsSome job.tables → ⊥
 apart-resumed job is some = not_resumed job.tables job.resume is some
 
 pub no_interval : (tables backup : Option ℕ) → IsSome tables → interval_for tables backup ≡ None
-no_interval None backup some = absurd some
+no_interval None backup some = absurd (let e : false ≡ true = some in cc)
 no_interval (Some k) backup some = refl
 
 pub at_least_one : (backup : Option ℕ) → IfSome backup (λ n. (1 ≤ n) × (n ≤ 2 ^ 20)) → IfSome backup (λ n. 1 ≤ n)

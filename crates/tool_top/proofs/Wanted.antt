@@ -123,7 +123,7 @@ module _ (tool : Tool) (input : Input) (formed : IsWellFormed (user_system tool 
 
 -- ---- the outputs of a plan
 -- a start is of the system that it is for
-start_system : (b : Bool) (S : ToolSystem) (stored : Stored) (s : Start) → Starts b S stored s → system_of s ≡ S
+pub start_system : (b : Bool) (S : ToolSystem) (stored : Stored) (s : Start) → Starts b S stored s → system_of s ≡ S
 start_system false S stored s h = ap system_of h
 start_system true S stored (Fresh T) h = absurd h
 start_system true S stored (Resumed s First) h = h.0.system_is
@@ -143,7 +143,7 @@ module _ (tool : Tool) (job : Job) (input : Input) (stored : Stored) (shaped : I
   sound_outputs T finished outputs is sound selected = subst (λ (U : ToolSystem). AreSoundOf U.tool U outputs) is (files_sound T.tool T finished outputs sound selected)
 
   -- what is selected from the finish of a run is what its plan asks for
-  wanted_from : (s : Start) (f : Finish) (outputs : List OutputFile) → f.system ≡ tool_system tool input → (IsDefinedStart s → HasAllSolutions f) → IsSoundFrom s f
+  pub wanted_from : (s : Start) (f : Finish) (outputs : List OutputFile) → f.system ≡ tool_system tool input → (IsDefinedStart s → HasAllSolutions f) → IsSoundFrom s f
       → AreSelectedOf f.system.tool f.system f.rows.rows outputs → AreOutputs this_plan s outputs
   wanted_from (Fresh S) f outputs is all sound selected = exact_outputs f.system f.rows.rows outputs is (all tt) selected
   wanted_from (Resumed s slot) f outputs is all sound selected =
