@@ -1,1 +1,5 @@
 pub mod Backing
+pub mod Leaving
+pub mod Soundness
+pub mod Coming
+pub mod Looking

@@ -1,5 +1,6 @@
 -- What the backups of a run leave in a folder.
 use Rattle.std.specs.Prelude.{◌≡◌, ◌⊎◌, ◌≤◌, ℕ, ◌-◌, List, [], ◌∷◌, ◌++◌, take, nat_lt, if◌then◌else◌, slice_index_or}
+use Rattle.std.specs.Option.{option_map}
 use Rattle.std.specs.List.{fold}
 use Rattle.outside.specs.Files.{Files, written}
 use Rattle.stage_store.specs.Stage.{StageValue}
@@ -18,7 +19,8 @@ turned (a ∷ names) = names ++ a ∷ []
 -- the next name holds the stage's text, and the other name is next
 abbrev pub backed_up : BackupState → StageValue → BackupState
 backed_up s stage = record {
-  files = written (next_name s) (text_of_stage stage) s.files;
+  lent = s.lent;
+  files = option_map (written (next_name s) (text_of_stage stage)) s.files;
   names = turned s.names;
   interval = s.interval;
   left = s.interval;
@@ -30,7 +32,7 @@ after_norm s stage = if nat_lt 1 s.left then record s { left = s.left - 1 } else
 
 -- a refused backup leaves the next name as before, or with a prefix of the stage's text, and all else as before
 abbrev pub MayBackUp : BackupState → StageValue → BackupState → Type 0
-MayBackUp s stage t = (s.left ≤ 1) × ((t ≡ s) ⊎ ((k : ℕ) × (t ≡ record s { files = written (next_name s) (take k (text_of_stage stage)) s.files })))
+MayBackUp s stage t = (s.left ≤ 1) × ((t ≡ s) ⊎ ((k : ℕ) × (t ≡ record s { files = option_map (written (next_name s) (take k (text_of_stage stage))) s.files })))
 
 -- ---- many norms
 -- the stages at the end of each interval, where so many norms are left to the first
@@ -50,4 +52,4 @@ written_in_turn names (stage ∷ stages) files =
 abbrev pub GoInTurn : Type 0
 GoInTurn =
     (s : BackupState) (closed : List StageValue)
-    → (fold after_norm s closed).files ≡ written_in_turn s.names (ends_of_intervals s.interval s.left closed) s.files
+    → (fold after_norm s closed).files ≡ option_map (written_in_turn s.names (ends_of_intervals s.interval s.left closed)) s.files

@@ -1,4 +1,15 @@
 pub use Rattle.outside.specs.Files
+pub use Rattle.outside.specs.Causes
+pub use Rattle.lift_core.specs.Systems
+pub use Rattle.lift_core.specs.ToolSystems
+pub use Rattle.lift_core.specs.Ends
 pub use Rattle.stage_store.specs.Stage
+pub use Rattle.stage_store.specs.Lifted
 pub use Rattle.restart_file.specs.Texts
+pub use Rattle.restart_file.specs.Reading
+pub use Rattle.lift_run.specs.Runs
+pub use Rattle.lift_run.specs.Keeps
 pub mod Backups
+pub mod Starts
+pub mod Standing
+pub mod Inside

@@ -1,8 +1,8 @@
 //! The Keep that writes backups.
 
-ghost use Rattle.std.specs.Prelude.{◌≡◌, ◌≤◌, ◌∷◌, [], Option};
-ghost use Rattle.std.specs.Option.{option_map};
+ghost use Rattle.std.specs.Prelude.{◌≡◌, ◌≤◌, ◌∷◌, [], Option, Some};
 
+use crate::Slot;
 use lift_run::Keep;
 use outside::{Folder, PutEnd, SureFolder, Words};
 use restart_file::write_restart;
@@ -10,13 +10,18 @@ use stage_store::Stage;
 use std::alloc::Global;
 use std::mem;
 
-/// How the backups stand, as plain data: the files, the names of which the first is next, the interval, and how many norms
-/// are left to the next backup. It is the state of a `Backup`, and is never made.
+/// How the backups stand, as plain data. It is the state of a `Backup`, and is never made.
 #[derive(Drop)]
 pub struct BackupState {
-    pub files: SureFolder,
+    /// Which folder is lent, as the number of the borrow.
+    pub lent: u64,
+    /// The files, where the folder tells them.
+    pub files: Option<SureFolder>,
+    /// The two names, the next one first.
     pub names: Words,
+    /// A backup is written after every so many closed norms.
     pub interval: u32,
+    /// How many norms are left to the next backup.
     pub left: u32,
 }
 
@@ -27,21 +32,24 @@ pub struct Backup<'a, F> {
     folder: &'a mut F,
     next: &'a str,
     other: &'a str,
+    slot: Slot,
     interval: u32,
     left: u32,
 }
 
 impl<'a, F: Folder> Backup<'a, F> {
-    /// No norm is closed yet. The first backup goes to the file `next`.
+    /// No norm is closed yet. The first backup goes to the file `next`, which is that of the slot.
     pub fn new(
         alloc: Global,
         folder: &'a mut F,
         next: &'a str,
         other: &'a str,
+        slot: Slot,
         interval: u32,
     ) -> Backup<'a, F>
         requires { 1 ≤ interval }
         ensures folder { result.folder.now ≡ folder.old }
+        ensures same_reference { result.folder.ghost_name ≡ folder.entry.ghost_name }
         ensures names { (result.next.now ≡ next.now) × (result.other.now ≡ other.now) }
         ensures interval { (result.interval ≡ interval) × (result.left ≡ interval) }
     {
@@ -50,16 +58,17 @@ impl<'a, F: Folder> Backup<'a, F> {
             folder,
             next,
             other,
+            slot,
             interval,
             left: interval,
         }
     }
 
-    /// The name of the file that the next backup goes to; after a refusal the one that was not written.
-    pub fn next_name(&self) -> &str
-        ensures { result.now ≡ self.now.next.now }
+    /// Which file the next backup goes to; after a refusal the one that was not written.
+    pub fn next_slot(&self) -> Slot
+        ensures { result ≡ self.now.slot }
     {
-        self.next
+        self.slot
     }
 }
 
@@ -68,7 +77,7 @@ impl<'a, F: Folder> Keep for Backup<'a, F> {
 
     ghost use Rattle.backups.specs.Backups.{after_norm, MayBackUp};
 
-    ghost state = { λ b. option_map (λ files. record { files = files; names = b.next.now ∷ b.other.now ∷ []; interval = b.interval; left = b.left }) (F.held b.folder.now) };
+    ghost state = { λ b. Some (record { lent = b.folder.ghost_name; files = F.held b.folder.now; names = b.next.now ∷ b.other.now ∷ []; interval = b.interval; left = b.left }) };
 
     ghost faults = { λ b. F.faults b.folder.now };
 
@@ -83,6 +92,7 @@ impl<'a, F: Folder> Keep for Backup<'a, F> {
         }
         write_restart(self.alloc, stage, self.folder, self.next)?;
         mem::swap(&mut self.next, &mut self.other);
+        self.slot = self.slot.other();
         self.left = self.interval;
         Ok(())
     }

@@ -2,7 +2,7 @@
 
 ghost use Rattle.std.specs.Prelude.{◌≡◌};
 
-use backups::Backup;
+use backups::{Backup, Slot};
 use lift_core::{System, Tool};
 use lift_run::{Keep, Limits, run_system};
 use outside::SureFolder;
@@ -56,7 +56,7 @@ fn last_backup_holds_the_last_stage(rt: HostRuntime) -> Result<(), Fail> {
     let finished = finishes(
         &rt,
         alloc,
-        &mut Backup::new(alloc, &mut folder, "P.ckp0", "P.ckp1", 1),
+        &mut Backup::new(alloc, &mut folder, "P.ckp0", "P.ckp1", Slot::First, 1),
     )?;
     assert!(rt; finished && folder.file("P.ckp1") == Some(LAST));
     Ok(())

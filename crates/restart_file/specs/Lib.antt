@@ -4,4 +4,7 @@ pub use Rattle.lift_core.specs.Systems
 pub use Rattle.lift_core.specs.ToolSystems
 pub use Rattle.stage_store.specs.Stage
 pub mod Texts
+pub mod Ends
+pub mod Reading
+pub mod Stored
 pub mod Inside

@@ -5,9 +5,15 @@
 #![tactic(auto)]
 
 mod classes;
+mod dues;
+mod ends;
 mod lines;
 mod numbers;
+mod reading;
 mod writing;
 
+pub use dues::Due;
+pub use ends::{RestartEnd, RestartFault};
 pub use lines::Version;
+pub use reading::read_restart;
 pub use writing::write_restart;

@@ -533,25 +533,6 @@ fn words_and_caps_are_obeyed(rt: HostRuntime) -> Result<(), Fail> {
                 "hilbert: usage: hilbert [-q|--quiet] [--workers=N] [--pairs=N] [--rows=N] [--backup=N] [-r|--resume] PROJECT\n",
             )
         },
-        // Restart files are not built yet.
-        Case {
-            words: &["--backup=2", "P"],
-            ..refused(
-                Tool::Graver,
-                &[(".mat", "0 3\n")],
-                "1 Usage",
-                "graver: usage: graver [-q|--quiet] [--workers=N] [--pairs=N] [--rows=N] [--backup=N] [-r|--resume] PROJECT or graver [-q|--quiet] [--workers=N] [--pairs=N] [--rows=N] --tables=K\n",
-            )
-        },
-        Case {
-            words: &["-r", "P"],
-            ..refused(
-                Tool::Graver,
-                &[(".mat", "0 3\n")],
-                "1 Usage",
-                "graver: usage: graver [-q|--quiet] [--workers=N] [--pairs=N] [--rows=N] [--backup=N] [-r|--resume] PROJECT or graver [-q|--quiet] [--workers=N] [--pairs=N] [--rows=N] --tables=K\n",
-            )
-        },
         // No file is looked at: the first call of the folder would fail.
         Case {
             words: &["--tables=2"],

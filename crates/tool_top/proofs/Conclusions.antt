@@ -1,17 +1,11 @@
--- What the ends of a command say: an answer that comes early, a run that was stopped or cut, and a run that has written all.
-use Rattle.std.proofs.Common.{◌≡◌, ◌≢◌, ◌⊎◌, inl, inr, ℕ, List, [], ◌∷◌, Option, None, Some, Result, Ok, Err, IfSome, IsOkAnd, IsErrAnd, refl, ap, sym, subst, ◌∙◌}
+-- What the ends of a command say: an answer that comes early, and the clauses of the top call.
+use Rattle.std.proofs.Common.{◌≡◌, ◌≢◌, ◌⊎◌, inl, inr, ℕ, List, [], ◌∷◌, Bool, true, false, Option, None, Some, Result, Ok, Err, IfSome, IsOkAnd, IsErrAnd, refl, ap, sym, subst, ◌∙◌}
 use Rattle.std.specs.Option.{option_map}
 use Rattle.outside.specs.Files.{Files}
 use Rattle.lift_core.specs.Systems.{ToolSystem}
 use Rattle.lift_core.specs.declared.Tool.{Tool}
-use Rattle.lift_core.specs.declared.Tool.TheVariants.{Graver, Hilbert, Zsolve}
-use Rattle.lift_core.specs.Ends.{RunEnds}
-use Rattle.lift_run.specs.declared.ends.Place.TheVariants.{Row, Norm}
-use Rattle.lift_run.specs.declared.ends.RunEnd.{RunEnd}
-use Rattle.lift_run.specs.declared.ends.RunEnd.TheVariants.{Overflow as RunOverflow, Pairs as RunPairs, Rows as RunRows, Failed as RunFailed, Memory as RunMemory}
-use Rattle.lift_run.specs.Runs.{end_of_error}
-use Rattle.system_shape.specs.Problem.{UserSystem}
-use Rattle.system_shape.specs.Shape.{user_system, tool_system}
+use Rattle.restart_file.specs.declared.ends.RestartFault.{RestartFault}
+use Rattle.system_shape.specs.Shape.{tool_system}
 use Rattle.system_shape.specs.declared.files.Input.{Input}
 use Rattle.system_files.specs.declared.sources.Source.{Source}
 use Rattle.system_files.specs.declared.sources.Source.TheVariants as source
@@ -21,48 +15,57 @@ use Rattle.system_files.specs.declared.faults.InputFault.TheVariants as input_fa
 use Rattle.system_files.specs.declared.faults.InputStop.{InputStop}
 use Rattle.system_files.specs.declared.faults.InputStop.TheVariants as stop
 use Rattle.system_files.specs.declared.systems.Shaped.{Shaped}
-use Rattle.system_files.specs.Inputs.{FindsBy}
-use Rattle.tool_top.specs.declared.ends.Part.{Part}
-use Rattle.tool_top.specs.declared.ends.Part.TheVariants.{Mat, Gra, Hil, Zhom, Zinhom, Out}
-use Rattle.tool_top.specs.declared.ends.End.{End}
-use Rattle.tool_top.specs.declared.ends.End.TheVariants.{Done, Usage, Missing, TooLong, Text, Refused, Shape, Outside, Memory}
-use Rattle.tool_top.specs.declared.ends.Totals.{Totals}
+use Rattle.system_files.specs.Inputs.{FindsBy, IsShaped}
+use Rattle.tool_words.specs.Jobs.{job_of, Reads}
 use Rattle.tool_words.specs.declared.jobs.Job.{Job}
 use Rattle.tool_words.specs.declared.jobs.WordEnd.{WordEnd}
 use Rattle.tool_words.specs.declared.jobs.WordEnd.TheVariants.{Usage as NoForm, Memory as NoMemory}
-use Rattle.tool_top.specs.Plan.{Plan, input_in, project_of, part_of, answer_of, plan_of, plan_for}
-use Rattle.tool_top.specs.Outputs.{OutputFile, AreOutputs, AreOutputsOf, HasWritten, file_of, to_write, written_all, rows_in, norms_in}
-use Rattle.tool_top.specs.Expected.{limits_of, RunComesTo, FinishesWith, IsExpected, ComesTo, OnDone}
+use Rattle.backups.specs.declared.starts.Slot.{Slot}
+use Rattle.backups.specs.declared.starts.Slot.TheVariants.{First, Second}
+use Rattle.backups.specs.declared.starts.Start.{Start}
+use Rattle.backups.specs.declared.starts.Start.TheVariants.{Fresh, Resumed}
+use Rattle.backups.specs.declared.starts.StartEnd.{StartEnd}
+use Rattle.backups.specs.declared.starts.StartEnd.TheVariants as start
+use Rattle.backups.specs.Starts.{Stored, stored_in, FindsStart}
+use Rattle.std.specs.Prelude.{◌≤◌, ◌^◌, ◌&&◌, is_none, IsSome}
+use Rattle.tool_top.specs.declared.ends.Part.{Part}
+use Rattle.tool_top.specs.declared.ends.Part.TheVariants.{Mat, Ckp0, Ckp1, Out}
+use Rattle.tool_top.specs.declared.ends.End.{End}
+use Rattle.tool_top.specs.declared.ends.End.TheVariants.{Done, Usage, Missing, TooLong, Text, Refused, Shape, Outside, Memory}
+use Rattle.tool_top.specs.declared.ends.Totals.{Totals}
+use Rattle.tool_top.specs.Plan.{Plan, input_in, project_of, part_of, answer_of, plan_of, plan_for, resumes, interval_for, system_of_plan, stored_of}
+use Rattle.tool_top.specs.Names.{file_name}
+use Rattle.tool_top.specs.Outputs.{written_all}
+use Rattle.tool_top.specs.Expected.{AreRefused, Starts, StartsAs, IsExpected, ComesTo, OnDone}
 use Rattle.tool_top.specs.Summary.{Tells}
-use Rattle.tool_top.specs.Left.{Traces, IsUntouched, IsCutAt, IsCutInFile, LeavesCut, Leaves}
-use Rattle.tool_top.specs.Inside.Ends.{Asks, end_of_words, end_of_stop, end_of_run, end_of, Ends}
-use Rattle.tool_top.specs.Inside.Writing.{CutsTo, TellsOf}
+use Rattle.tool_top.specs.Left.{Traces, HasWritten, IsUntouched, LeavesCut, Leaves}
+use Rattle.tool_top.specs.Inside.Ends.{Asks, FindsStartOf, end_of_words, end_of_stop, end_of_start, end_of, Ends}
 
 -- the traces of a run over a folder that tells its files
-abbrev traces : Files → Option Files → Option (List ℕ) → Option (List ℕ) → Traces
+abbrev pub traces : Files → Option Files → Option (List ℕ) → Option (List ℕ) → Traces
 traces files new told tells =
     record { files_before = files; files_after = new; out_before = told; out_after = tells }
 
 -- the plan's end and what it leaves, where the folder tells its files
-abbrev EndsOver : Result Plan End → Option Files → Option Files → Option (List ℕ) → Option (List ℕ) → End → Type 0
+abbrev pub EndsOver : Result Plan End → Option Files → Option Files → Option (List ℕ) → Option (List ℕ) → End → Type 0
 EndsOver plan held new told tells e = IfSome held (λ files. Ends plan (traces files new told tells) e)
 
-untouched : (files : Files) (new : Option Files) (told : Option (List ℕ)) → new ≡ Some files → IsUntouched (traces files new told told)
+pub untouched : (files : Files) (new : Option Files) (told : Option (List ℕ)) → new ≡ Some files → IsUntouched (traces files new told told)
 untouched files new told same = record { files = same; out = refl }
 
 -- what holds of each folder that tells its files and is as before
-over_same : (plan : Result Plan End) (held new : Option Files) (told : Option (List ℕ)) (e : End) → new ≡ held
+pub over_same : (plan : Result Plan End) (held new : Option Files) (told : Option (List ℕ)) (e : End) → new ≡ held
     → ((t : Traces) → IsUntouched t → Ends plan t e) → EndsOver plan held new told told e
 over_same plan None new told e same ends = tt
 over_same plan (Some files) new told e same ends = ends (traces files new told told) (untouched files new told same)
 
 -- what holds of the end that a refused step gives holds of the end of the run
-at_error : (P : End → Type 0) (r : Result Totals End) (e : End) → IsErrAnd r (λ y. y ≡ e) → P e → P (end_of r)
+pub at_error : (P : End → Type 0) (r : Result Totals End) (e : End) → IsErrAnd r (λ y. y ≡ e) → P e → P (end_of r)
 at_error P (Ok totals) e is h = absurd is
 at_error P (Err y) e is h = subst P (sym is) h
 
 -- ---- an answer that comes before the run
-memory_ends : (plan : Result Plan End) (t : Traces) → IsUntouched t → Ends plan t Memory
+pub memory_ends : (plan : Result Plan End) (t : Traces) → IsUntouched t → Ends plan t Memory
 memory_ends plan t u = record { comes = tt; leaves = (Mat, u) }
 
 answer_expected : (plan : Result Plan End) (e : End) → plan ≡ Err e → IsExpected plan e
@@ -85,13 +88,92 @@ source_leaves plan t source.Lat u = u
 source_leaves plan t source.Lb u = u
 source_leaves plan t source.Ub u = u
 
+-- both restart files are refused
+refused_both : (plan : Plan) (f g : RestartFault) (b : Bool) → resumes plan.job ≡ b → FindsStartOf b (system_of_plan plan) plan.stored (Err (start.Refused f g)) → AreRefused plan f g
+refused_both plan f g true is h = record { resumed = is; first_fault = h.0; second_fault = h.1 }
+refused_both plan f g false is h = absurd (cc)
+
+-- the start that was found
+abbrev start_or : Start → Result Start StartEnd → Start
+start_or other (Ok s) = s
+start_or other (Err e) = other
+
+-- ---- what an end without a start says
+at_start : (e : StartEnd) (A : Type 0) (p : Part) → ((slot : Slot) → e ≡ start.Failed slot → A) → end_of_start e ≡ Outside p → A
+at_start (start.Refused f g) A p failed is = absurd (cc)
+at_start (start.Failed slot) A p failed is = failed slot refl
+at_start start.Memory A p failed is = absurd (cc)
+
+pub start_fault : (r : Result Totals End) (e : StartEnd) (A : Type 0) (p : Part) → IsErrAnd r (λ y. y ≡ end_of_start e) → ((slot : Slot) → e ≡ start.Failed slot → A) → end_of r ≡ Outside p → A
+start_fault (Ok totals) e A p err failed is = absurd err
+start_fault (Err y) e A p err failed is = at_start e A p failed (sym err ∙ is)
+
+out_at_start : (e : StartEnd) → end_of_start e ≡ Outside Out → ⊥
+out_at_start (start.Refused f g) is = absurd (cc)
+out_at_start (start.Failed First) is = absurd (cc)
+out_at_start (start.Failed Second) is = absurd (cc)
+out_at_start start.Memory is = absurd (cc)
+
+pub start_not_out : (r : Result Totals End) (e : StartEnd) → IsErrAnd r (λ y. y ≡ end_of_start e) → end_of r ≡ Outside Out → ⊥
+start_not_out (Ok totals) e err is = absurd err
+start_not_out (Err y) e err is = out_at_start e (sym err ∙ is)
+
+usage_at_start : (e : StartEnd) → end_of_start e ≡ Usage → ⊥
+usage_at_start (start.Refused f g) is = absurd (cc)
+usage_at_start (start.Failed slot) is = absurd (cc)
+usage_at_start start.Memory is = absurd (cc)
+
+pub start_not_usage : (r : Result Totals End) (e : StartEnd) → IsErrAnd r (λ y. y ≡ end_of_start e) → end_of r ≡ Usage → ⊥
+start_not_usage (Ok totals) e err is = absurd err
+start_not_usage (Err y) e err is = usage_at_start e (sym err ∙ is)
+
+tells_at_start : (job : Option Job) (told : Option (List ℕ)) (e : StartEnd) → Tells job told told (end_of_start e)
+tells_at_start job told (start.Refused f g) = refl
+tells_at_start job told (start.Failed slot) = inl refl
+tells_at_start job told start.Memory = inl refl
+
+pub tells-start : (job : Option Job) (told : Option (List ℕ)) (r : Result Totals End) (e : StartEnd) → IsErrAnd r (λ y. y ≡ end_of_start e) → Tells job told told (end_of r)
+tells-start job told r e err = at_error (Tells job told told) r (end_of_start e) err (tells_at_start job told e)
+
+-- ---- finding the start
+pub found-resumed : (b : Bool) (project : List ℕ) (S : ToolSystem) (held : Option Files) (result : Result Start StartEnd) (first second : List ℕ) → b ≡ true
+    → first ≡ file_name project Ckp0 → second ≡ file_name project Ckp1
+    → IfSome held (λ files. FindsStart S (stored_in first second files) result) → IfSome held (λ files. FindsStartOf b S (stored_of project files) result)
+found-resumed b project S None result first second is a c h = tt
+found-resumed b project S (Some files) result first second is a c h =
+    subst (λ x. FindsStartOf x S (stored_of project files) result) (sym is)
+    (subst (λ x. FindsStart S (stored_in x (file_name project Ckp1) files) result) a (subst (λ x. FindsStart S (stored_in first x files) result) c h))
+
+pub found-fresh : (b : Bool) (project : List ℕ) (S : ToolSystem) (held : Option Files) → b ≡ false → IfSome held (λ files. FindsStartOf b S (stored_of project files) (Ok (Fresh S)))
+found-fresh b project S None is = tt
+found-fresh b project S (Some files) is = subst (λ x. FindsStartOf x S (stored_of project files) (Ok (Fresh S))) (sym is) refl
+
+-- with tables nothing is resumed, and no backup is written
+not_resumed : (tables : Option ℕ) (resume : Bool) → (is_none tables && resume) ≡ true → IsSome tables → ⊥
+not_resumed None resume is some = let e : false ≡ true = some in cc
+not_resumed (Some k) resume is some = absurd (cc)
+
+pub apart-resumed : (job : Job) → resumes job ≡ true → IsSome job.tables → ⊥
+apart-resumed job is some = not_resumed job.tables job.resume is some
+
+pub no_interval : (tables backup : Option ℕ) → IsSome tables → interval_for tables backup ≡ None
+no_interval None backup some = absurd (let e : false ≡ true = some in cc)
+no_interval (Some k) backup some = refl
+
+pub at_least_one : (backup : Option ℕ) → IfSome backup (λ n. (1 ≤ n) × (n ≤ 2 ^ 20)) → IfSome backup (λ n. 1 ≤ n)
+at_least_one None h = tt
+at_least_one (Some n) h = h.0
+
 -- reading the files of a job came to this
 module _ (tool : Tool) (job : Job) where
   plan_fails : (files : Files) (fault : InputFault) → input_in tool job.tables (project_of job) files ≡ Err fault → plan_of tool job files ≡ Err (answer_of fault)
   plan_fails files fault found = rw found refl
 
-  plan_is : (files : Files) (input : Input) → input_in tool job.tables (project_of job) files ≡ Ok input
-      → plan_of tool job files ≡ Ok (record { job = job; tool = tool; input = input })
+  -- the plan of an input
+  abbrev pub with_input : Input → Files → Plan
+  with_input input files = record { job = job; tool = tool; input = input; stored = stored_of (project_of job) files }
+
+  plan_is : (files : Files) (input : Input) → input_in tool job.tables (project_of job) files ≡ Ok input → plan_of tool job files ≡ Ok (with_input input files)
   plan_is files input found = rw found refl
 
   stop_ends : (files : Files) (e : InputStop) → FindsBy (λ (s : Shaped). s.input) (Err e) (input_in tool job.tables (project_of job) files)
@@ -108,16 +190,58 @@ module _ (tool : Tool) (job : Job) where
       at_error (Ends (plan_of tool job files) (traces files new told told)) r (end_of_stop e) err
       (stop_ends files e f (traces files new told told) (untouched files new told same))
 
+  -- ---- no start was found
+  start_ends : (plan : Plan) (e : StartEnd) → FindsStartOf (resumes plan.job) (system_of_plan plan) plan.stored (Err e) → (t : Traces) → IsUntouched t → Ends (Ok plan) t (end_of_start e)
+  start_ends plan (start.Refused f g) h t u = record { comes = refused_both plan f g (resumes plan.job) refl h; leaves = u }
+  start_ends plan (start.Failed First) h t u = record { comes = tt; leaves = inl u }
+  start_ends plan (start.Failed Second) h t u = record { comes = tt; leaves = inl u }
+  start_ends plan start.Memory h t u = memory_ends (Ok plan) t u
+
+  -- the folder is as before, and these are the plan's files
+  pub ends-start : (input : Input) (held mid new : Option Files) (told : Option (List ℕ)) (S : ToolSystem) (e : StartEnd) (r : Result Totals End) → mid ≡ held → new ≡ mid
+      → IfSome held (λ files. input_in tool job.tables (project_of job) files ≡ Ok input) → S ≡ tool_system tool input
+      → IfSome mid (λ files. FindsStartOf (resumes job) S (stored_of (project_of job) files) (Err e)) → IsErrAnd r (λ y. y ≡ end_of_start e)
+      → IfSome held (λ files. Ends (plan_of tool job files) (traces files new told told) (end_of r))
+  ends-start input None mid new told S e r same same' found is h err = tt
+  ends-start input (Some files) mid new told S e r same same' found is h err =
+      let f : FindsStartOf (resumes job) S (stored_of (project_of job) files) (Err e) =
+      (let k : IfSome (Some files) (λ files. FindsStartOf (resumes job) S (stored_of (project_of job) files) (Err e)) =
+      subst (λ m. IfSome m (λ files. FindsStartOf (resumes job) S (stored_of (project_of job) files) (Err e))) same h in k) in
+      let g : FindsStartOf (resumes job) (tool_system tool input) (stored_of (project_of job) files) (Err e) = subst (λ T. FindsStartOf (resumes job) T (stored_of (project_of job) files) (Err e)) is f in
+      subst (λ p. Ends p (traces files new told told) (end_of r)) (sym (plan_is files input found))
+      (at_error (Ends (Ok (with_input input files)) (traces files new told told)) r (end_of_start e) err
+      (start_ends (with_input input files) e g (traces files new told told) (untouched files new told (same' ∙ same))))
+
+  -- out of memory for the names of the restart files
+  pub ends-names : (held new : Option Files) (told : Option (List ℕ)) (r : Result Totals End) → new ≡ held → IsErrAnd r (λ y. y ≡ Memory)
+      → IfSome held (λ files. Ends (plan_of tool job files) (traces files new told told) (end_of r))
+  ends-names None new told r same err = tt
+  ends-names (Some files) new told r same err =
+      at_error (Ends (plan_of tool job files) (traces files new told told)) r Memory err
+      (memory_ends (plan_of tool job files) (traces files new told told) (untouched files new told same))
+
+  -- a start that was found is the plan's
+  found_start : (b : Bool) (S : ToolSystem) (stored : Stored) (s : Start) → FindsStartOf b S stored (Ok s) → Starts b S stored s
+  found_start true S stored s h = h
+  found_start false S stored s h = ap (start_or s) h
+
   -- a run that is carried out ends as its plan says
-  pub ends-carried : (input : Input) (held mid new : Option Files) (told tells : Option (List ℕ)) (e : End) → mid ≡ held
-      → IfSome held (λ files. input_in tool job.tables (project_of job) files ≡ Ok input)
-      → EndsOver (Ok (record { job = job; tool = tool; input = input })) mid new told tells e
+  pub ends-carried : (input : Input) (held mid last new : Option Files) (told tells : Option (List ℕ)) (S : ToolSystem) (s : Start) (e : End) → mid ≡ held → last ≡ mid
+      → IfSome held (λ files. input_in tool job.tables (project_of job) files ≡ Ok input) → IsShaped tool input S
+      → IfSome mid (λ files. FindsStartOf (resumes job) S (stored_of (project_of job) files) (Ok s))
+      → ((stored : Stored) → IsShaped tool input (tool_system tool input) → StartsAs (record { job = job; tool = tool; input = input; stored = stored }) s
+          → EndsOver (Ok (record { job = job; tool = tool; input = input; stored = stored })) last new told tells e)
       → IfSome held (λ files. Ends (plan_of tool job files) (traces files new told tells) e)
-  ends-carried input None mid new told tells e same found ends = tt
-  ends-carried input (Some files) mid new told tells e same found ends =
-      subst (λ p. Ends p (traces files new told tells) e) (sym (plan_is files input found))
-      (let h : EndsOver (Ok (record { job = job; tool = tool; input = input })) (Some files) new told tells e =
-      subst (λ m. EndsOver (Ok (record { job = job; tool = tool; input = input })) m new told tells e) same ends in h)
+  ends-carried input None mid last new told tells S s e same same' found shaped h ends = tt
+  ends-carried input (Some files) mid last new told tells S s e same same' found shaped h ends =
+      let k : IfSome (Some files) (λ files. FindsStartOf (resumes job) S (stored_of (project_of job) files) (Ok s)) =
+      subst (λ m. IfSome m (λ files. FindsStartOf (resumes job) S (stored_of (project_of job) files) (Ok s))) same h in
+      let f : Starts (resumes job) S (stored_of (project_of job) files) s = found_start (resumes job) S (stored_of (project_of job) files) s k in
+      let g : StartsAs (with_input input files) s = subst (λ T. Starts (resumes job) T (stored_of (project_of job) files) s) shaped.is f in
+      let w : IsShaped tool input (tool_system tool input) = subst (λ T. IsShaped tool input T) shaped.is shaped in
+      let over : EndsOver (Ok (with_input input files)) (Some files) new told tells e =
+      subst (λ m. EndsOver (Ok (with_input input files)) m new told tells e) (same' ∙ same) (ends (stored_of (project_of job) files) w g) in
+      subst (λ p. Ends p (traces files new told tells) e) (sym (plan_is files input found)) over
 
 -- words that are refused
 words_ends : (tool : Tool) (e : WordEnd) (asked : Option Job) → Asks asked (Err e) → (files : Files) (t : Traces) → IsUntouched t
@@ -144,128 +268,9 @@ pub ends-asked : (tool : Tool) (job : Job) (asked : Option Job) (held new : Opti
 ends-asked tool job asked held new told tells e is ends =
     subst (λ a. IfSome held (λ files. Ends (plan_for tool a files) (traces files new told tells) e)) (sym is) ends
 
-module _ (tool : Tool) (job : Job) (input : Input) where
-  abbrev the_plan : Plan
-  the_plan = record { job = job; tool = tool; input = input }
-
-  -- ---- the run was stopped, and nothing was written
-  run_ends : (e : RunEnd) → IfSome (end_of_error e) (RunComesTo the_plan) → (t : Traces) → IsUntouched t → Ends (Ok the_plan) t (end_of_run e)
-  run_ends (RunOverflow k (Row v)) s t u = record { comes = s; leaves = u }
-  run_ends (RunOverflow k (Norm d)) s t u = record { comes = s; leaves = u }
-  run_ends (RunPairs k d n) s t u = record { comes = s; leaves = u }
-  run_ends (RunRows k d n) s t u = record { comes = s; leaves = u }
-  run_ends RunFailed s t u = memory_ends (Ok the_plan) t u
-  run_ends RunMemory s t u = memory_ends (Ok the_plan) t u
-
-  pub ends-run : (held : Option Files) (told : Option (List ℕ)) (e : RunEnd) (r : Result Totals End) (S : ToolSystem) → S ≡ tool_system tool input
-      → IfSome (end_of_error e) (RunEnds S.equations (limits_of job)) → IsErrAnd r (λ y. y ≡ end_of_run e)
-      → EndsOver (Ok the_plan) held held told told (end_of r)
-  ends-run held told e r S is ends err =
-      let s : IfSome (end_of_error e) (RunComesTo the_plan) = subst (λ T. IfSome (end_of_error e) (RunEnds T.equations (limits_of job))) is ends in
-      at_error (EndsOver (Ok the_plan) held held told told) r (end_of_run e) err
-      (over_same (Ok the_plan) held held told (end_of_run e) refl (run_ends e s))
-
-  pub ends-memory : (held : Option Files) (told : Option (List ℕ)) (r : Result Totals End) → IsErrAnd r (λ y. y ≡ Memory)
-      → EndsOver (Ok the_plan) held held told told (end_of r)
-  ends-memory held told r err =
-      at_error (EndsOver (Ok the_plan) held held told told) r Memory err
-      (over_same (Ok the_plan) held held told Memory refl (memory_ends (Ok the_plan)))
-
-  -- ---- the writing was cut
-  -- what holds of the output files holds of the one that was cut
-  cut_part : (tool' : Tool) (U : UserSystem) (n : ℕ) (files : List OutputFile) (part : Part) (old new : Option Files) → AreOutputsOf tool' U n files
-      → IsCutAt (project_of job) files part old new → (P : Part → Type 0) → P Gra → P Hil → P Zhom → P Zinhom → P part
-  cut_part Graver U n files part old new w cut P gra hil zhom zinhom =
-      let at : IsCutAt (project_of job) (file_of Gra n w.0 ∷ []) part old new = subst (λ fs. IsCutAt (project_of job) fs part old new) w.2 cut in
-      elim at [ inl h ↦ subst P (sym h.0) gra | inr h ↦ absurd h ]
-  cut_part Hilbert U n files part old new w cut P gra hil zhom zinhom =
-      let at : IsCutAt (project_of job) (file_of Hil n w.0 ∷ []) part old new = subst (λ fs. IsCutAt (project_of job) fs part old new) w.2 cut in
-      elim at [ inl h ↦ subst P (sym h.0) hil | inr h ↦ absurd h ]
-  cut_part Zsolve U n files part old new w cut P gra hil zhom zinhom =
-      let at : IsCutAt (project_of job) (file_of Zhom n w.0 ∷ file_of Zinhom n w.1 ∷ []) part old new = subst (λ fs. IsCutAt (project_of job) fs part old new) w.4 cut in
-      elim at [ inl h ↦ subst P (sym h.0) zhom | inr h ↦ elim h [ inl k ↦ subst P (sym k.0) zinhom | inr k ↦ absurd k ] ]
-
-  -- with tables no file is written, and so none is cut
-  cut_written : (tables : Option ℕ) (outputs : List OutputFile) (part : Part) (old new : Option Files) → IsCutAt (project_of job) (to_write tables outputs) part old new → IsCutAt (project_of job) outputs part old new
-  cut_written None outputs part old new cut = cut
-  cut_written (Some k) outputs part old new cut = absurd cut
-
-  -- no output file is standard output
-  pub cut_is_not_out : (outputs : List OutputFile) → AreOutputs the_plan outputs → (r : Result Totals End) (e : End) (old new : Option Files)
-      → CutsTo (project_of job) (to_write job.tables outputs) old new e → IsErrAnd r (λ y. y ≡ e) → end_of r ≡ Outside Out → ⊥
-  cut_is_not_out outputs wanted (Ok totals) e old new cut err is = absurd err
-  cut_is_not_out outputs wanted (Err y) e old new cut err is =
-      let at : IsCutAt (project_of job) (to_write job.tables outputs) Out old new =
-      subst (CutsTo (project_of job) (to_write job.tables outputs) old new) (sym err ∙ is) cut in
-      cut_part tool (user_system tool input) input.mat.cols outputs Out old new wanted (cut_written job.tables outputs Out old new at)
-      (λ q. q ≡ Out → ⊥) (λ p. cc) (λ p. cc) (λ p. cc) (λ p. cc) refl
-
-  module _ (outputs : List OutputFile) (used : ℕ) (wanted : AreOutputs the_plan outputs) (finishes : FinishesWith the_plan used) where
-    cut_leaves : (files : Files) (new : Option Files) (told : Option (List ℕ)) (part : Part) → IsCutAt (project_of job) (to_write job.tables outputs) part (Some files) new
-        → LeavesCut (Ok the_plan) (traces files new told told) part
-    cut_leaves files new told part cut =
-        let P : Part → Type 0 = λ q. IsCutInFile the_plan (traces files new told told) q → LeavesCut (Ok the_plan) (traces files new told told) q in
-        let back : P part = cut_part tool (user_system tool input) input.mat.cols outputs part (Some files) new wanted (cut_written job.tables outputs part (Some files) new cut) P (λ h. h) (λ h. h) (λ h. h) (λ h. h) in
-        back (record { pairs = used; pairs_are = finishes; outputs = outputs; wanted = wanted; files = cut; out = refl })
-
-    cut_ends : (files : Files) (new : Option Files) (told : Option (List ℕ)) (e : End) → CutsTo (project_of job) (to_write job.tables outputs) (Some files) new e
-        → Ends (Ok the_plan) (traces files new told told) e
-    cut_ends files new told (Outside part) h = record { comes = tt; leaves = cut_leaves files new told part h }
-    cut_ends files new told Memory h = record { comes = tt; leaves = (h.0, cut_leaves files new told h.0 h.1) }
-    cut_ends files new told e h = absurd h
-
-    cut_over : (held new : Option Files) (told : Option (List ℕ)) (e : End) → CutsTo (project_of job) (to_write job.tables outputs) held new e → EndsOver (Ok the_plan) held new told told e
-    cut_over None new told e h = tt
-    cut_over (Some files) new told e h = cut_ends files new told e h
-
-    pub ends-cut : (held new : Option Files) (told : Option (List ℕ)) (e : End) (r : Result Totals End) → CutsTo (project_of job) (to_write job.tables outputs) held new e
-        → IsErrAnd r (λ y. y ≡ e) → EndsOver (Ok the_plan) held new told told (end_of r)
-    ends-cut held new told e r h err =
-        at_error (EndsOver (Ok the_plan) held new told told) r e err (cut_over held new told e h)
-
-    -- ---- all is written, and the summary was put or cut
-    told_ends : (files : Files) (new : Option Files) (told tells : Option (List ℕ)) (r : Result Totals End) → new ≡ Some (written_all (project_of job) (to_write job.tables outputs) files)
-        → TellsOf job outputs used told tells r → Ends (Ok the_plan) (traces files new told tells) (end_of r)
-    told_ends files new told tells (Ok totals) whole h = record {
-      comes = record {
-        outputs = outputs;
-        wanted = wanted;
-        solutions_are = h.solutions_are;
-        pairs_are = subst (FinishesWith the_plan) (sym h.pairs_are) finishes;
-        norms_are = h.norms_are;
-      };
-      leaves = record { files = (outputs, wanted, whole); out = h.out };
-    }
-    told_ends files new told tells (Err (Outside part)) whole h = record {
-      comes = tt;
-      leaves = subst (LeavesCut (Ok the_plan) (traces files new told tells)) (sym h.0)
-          (record { pairs = used; pairs_are = finishes; outputs = outputs; wanted = wanted; files = whole; out = h.1 });
-    }
-    told_ends files new told tells (Err Memory) whole h = record {
-      comes = tt;
-      leaves = (Out, record { pairs = used; pairs_are = finishes; outputs = outputs; wanted = wanted; files = whole; out = h });
-    }
-    told_ends files new told tells (Err e) whole h = absurd h
-
-    told_over : (held new : Option Files) (told tells : Option (List ℕ)) (r : Result Totals End) → new ≡ option_map (written_all (project_of job) (to_write job.tables outputs)) held
-        → TellsOf job outputs used told tells r → EndsOver (Ok the_plan) held new told tells (end_of r)
-    told_over None new told tells r whole h = tt
-    told_over (Some files) new told tells r whole h = told_ends files new told tells r whole h
-
-    pub ends-told : (held new : Option Files) (told tells : Option (List ℕ)) (r : Result Totals End) → new ≡ option_map (written_all (project_of job) (to_write job.tables outputs)) held
-        → TellsOf job outputs used told tells r → EndsOver (Ok the_plan) held new told tells (end_of r)
-    ends-told held new told tells r whole h = told_over held new told tells r whole h
-
--- ---- what standard output has gained
-pub tells-told : (job : Job) (outputs : List OutputFile) (used : ℕ) (told tells : Option (List ℕ)) (r : Result Totals End) → TellsOf job outputs used told tells r → Tells (Some job) told tells (end_of r)
-tells-told job outputs used told tells (Ok totals) h = h.out
-tells-told job outputs used told tells (Err (Outside part)) h = inr (h.0, (rows_in outputs, used, norms_in outputs, h.1))
-tells-told job outputs used told tells (Err Memory) h = inr (rows_in outputs, used, norms_in outputs, h)
-tells-told job outputs used told tells (Err e) h = absurd h
-
 -- ---- the clauses of the top call
 written : (plan : Result Plan End) (t : Traces) (e : End) → Leaves plan t e → OnDone e (IsOkAnd plan (λ p. HasWritten p t.files_before t.files_after))
-written (Ok p) t (Done s u n) h = h.files
+written (Ok p) t (Done s u n) h = h.written
 written (Err answer) t (Done s u n) h = absurd h
 written plan t e h = tt
 
@@ -318,3 +323,9 @@ module _ (held new : Option Files) (plan : Files → Result Plan End) (told tell
 pub unwritten : (project : List ℕ) (held : Option Files) → held ≡ option_map (written_all project []) held
 unwritten project None = refl
 unwritten project (Some files) = refl
+
+-- the job that was read is the one that the words ask for
+pub asks_of : (tool : Tool) (words : List (List ℕ)) (r : Result Job WordEnd) → Reads tool words r → Asks (job_of tool words) r
+asks_of tool words (Ok job) h = h
+asks_of tool words (Err NoForm) h = h
+asks_of tool words (Err NoMemory) h = tt

@@ -1,5 +1,6 @@
 pub mod Cuts
 pub mod Conclusions
+pub mod Finished
 pub mod Wanted
 pub mod Sequences
 pub mod Speaking

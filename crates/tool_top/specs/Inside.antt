@@ -1,3 +1,4 @@
 -- What only private contracts cite.
 pub mod Ends
+pub mod Names
 pub mod Writing

@@ -1,18 +1,25 @@
 -- What stands in the folder and on standard output at each end.
-use Rattle.std.specs.Prelude.{◌≡◌, ◌⊎◌, ℕ, List, [], ◌∷◌, Option, Some, Result, IsOkAnd}
+use Rattle.std.specs.Prelude.{◌≡◌, ◌⊎◌, ℕ, ℤ, List, [], ◌∷◌, Option, None, Some, Result, IsOkAnd}
 use Rattle.std.specs.Option.{option_map}
 use Rattle.std.specs.Io.KnownBytes.{append_known}
 use Rattle.outside.specs.Files.{Files}
 use Rattle.outside.specs.Pieces.{MayPut}
+use Rattle.lift_core.specs.Ends.{norm_overflow, row_overflow, pairs_spent, rows_spent, finished}
+use Rattle.lift_core.specs.Ends.{End as LiftEnd}
+use Rattle.lift_run.specs.declared.ends.Place.TheVariants.{Row, Norm}
 use Rattle.solution_files.specs.Outputs.{written, MayWrite}
+use Rattle.backups.specs.declared.starts.Start.{Start}
+use Rattle.backups.specs.Starts.{StartComesTo, first_slot}
+use Rattle.backups.specs.Standing.{Turns, turns_from, LeavesRun}
+use Rattle.tool_words.specs.declared.jobs.Job.{Job}
 use Rattle.tool_top.specs.declared.ends.Part.{Part}
-use Rattle.tool_top.specs.declared.ends.Part.TheVariants.{Gra, Hil, Zhom, Zinhom, Out}
+use Rattle.tool_top.specs.declared.ends.Part.TheVariants.{Ckp0, Ckp1, Gra, Hil, Zhom, Zinhom, Out}
 use Rattle.tool_top.specs.declared.ends.End.{End}
-use Rattle.tool_top.specs.declared.ends.End.TheVariants.{Done, Outside, Memory}
+use Rattle.tool_top.specs.declared.ends.End.TheVariants.{Done, Overflow, Pairs, Rows, Outside, Memory}
 use Rattle.tool_top.specs.Names.{file_name}
-use Rattle.tool_top.specs.Plan.{Plan, project_of}
-use Rattle.tool_top.specs.Outputs.{OutputFile, AreOutputs, HasWritten, to_write, written_all, rows_in, norms_in}
-use Rattle.tool_top.specs.Expected.{FinishesWith}
+use Rattle.tool_top.specs.Plan.{Plan, project_of, interval_for}
+use Rattle.tool_top.specs.Outputs.{OutputFile, to_write, written_all, rows_in, norms_in}
+use Rattle.tool_top.specs.Expected.{limits_of, StartsAs, Finishes}
 use Rattle.tool_top.specs.Summary.{summary_of}
 
 -- what a run found and what it left: the files, and the bytes of standard output
@@ -27,9 +34,46 @@ pub record IsUntouched (t : Traces) : Type 0 where
   pub files : t.files_after ≡ Some t.files_before
   pub out : t.out_after ≡ t.out_before
 
--- all output files hold their texts, and the summary was put
+-- ---- restart files
+-- how often the job's run writes a restart file, and the two names in turn: the first backup of a resumed run goes to the file
+-- that was not taken
+abbrev pub turns_for : Job → Start → Turns
+turns_for job start = turns_from (first_slot start) (interval_for job.tables job.backup)
+    (file_name (project_of job) Ckp0) (file_name (project_of job) Ckp1)
+
+-- the files that the plan's run leaves, all its backups among them, where it comes to this end; where none is named, those of
+-- the first norms that it closes, of which the last may be torn
+abbrev pub BacksUp : Plan → Start → Option LiftEnd → Files → Option Files → Type 0
+BacksUp p start named before after = LeavesRun (turns_for p.job start) (limits_of p.job) start named before after
+
+-- the run came to this end, and nothing was written but its backups
+pub record IsStopped (p : Plan) (t : Traces) (end : LiftEnd) : Type 0 where
+  pub start : Start
+  pub starts : StartsAs p start
+  pub comes : StartComesTo (limits_of p.job) start end
+  pub files : BacksUp p start (Some end) t.files_before t.files_after
+  pub out : t.out_after ≡ t.out_before
+
+-- the run broke off, and nothing was written but backups
+pub record IsBrokenOff (p : Plan) (t : Traces) : Type 0 where
+  pub start : Start
+  pub starts : StartsAs p start
+  pub files : BacksUp p start None t.files_before t.files_after
+  pub out : t.out_after ≡ t.out_before
+
+-- ---- output files
+-- the run is finished, all its backups are whole, all output files hold their texts, and all other files are as before
+pub record HasWritten (p : Plan) (before : Files) (after : Option Files) : Type 0 where
+  pub pairs : ℕ
+  pub outputs : List OutputFile
+  pub finishes : Finishes p pairs outputs
+  pub files : Files
+  pub backups : BacksUp p finishes.start (Some (finished finishes.rows pairs)) before (Some files)
+  pub whole : after ≡ Some (written_all (project_of p.job) (to_write p.job.tables outputs) files)
+
+-- and the summary was put
 pub record IsConcluded (plan : Plan) (t : Traces) (solutions pairs norms : ℕ) : Type 0 where
-  pub files : HasWritten plan t.files_before t.files_after
+  pub written : HasWritten plan t.files_before t.files_after
   pub out : t.out_after ≡ append_known t.out_before (summary_of plan.job solutions pairs norms)
 
 -- one of the files is as before, empty or has a prefix of its text, those before it are whole, and those after it are as before
@@ -40,25 +84,30 @@ IsCutAt project (f ∷ fs) part old new =
     ⊎ IsCutAt project fs part (option_map (written (file_name project f.part) f.text) old) new
 
 -- the run was finished, and the writing of an output file was refused
-pub record IsCutInFile (plan : Plan) (t : Traces) (part : Part) : Type 0 where
+pub record IsCutInFile (p : Plan) (t : Traces) (part : Part) : Type 0 where
   pub pairs : ℕ
-  pub pairs_are : FinishesWith plan pairs
   pub outputs : List OutputFile
-  pub wanted : AreOutputs plan outputs
-  pub files : IsCutAt (project_of plan.job) (to_write plan.job.tables outputs) part (Some t.files_before) t.files_after
+  pub finishes : Finishes p pairs outputs
+  pub files : Files
+  pub backups : BacksUp p finishes.start (Some (finished finishes.rows pairs)) t.files_before (Some files)
+  pub cut : IsCutAt (project_of p.job) (to_write p.job.tables outputs) part (Some files) t.files_after
   pub out : t.out_after ≡ t.out_before
 
 -- the run was finished, all output files are whole, and putting its summary was refused
-pub record IsCutInSummary (plan : Plan) (t : Traces) : Type 0 where
+pub record IsCutInSummary (p : Plan) (t : Traces) : Type 0 where
   pub pairs : ℕ
-  pub pairs_are : FinishesWith plan pairs
   pub outputs : List OutputFile
-  pub wanted : AreOutputs plan outputs
-  pub files : t.files_after ≡ Some (written_all (project_of plan.job) (to_write plan.job.tables outputs) t.files_before)
-  pub out : MayPut (summary_of plan.job (rows_in outputs) pairs (norms_in outputs)) t.out_before t.out_after
+  pub finishes : Finishes p pairs outputs
+  pub files : Files
+  pub backups : BacksUp p finishes.start (Some (finished finishes.rows pairs)) t.files_before (Some files)
+  pub whole : t.files_after ≡ Some (written_all (project_of p.job) (to_write p.job.tables outputs) files)
+  pub out : MayPut (summary_of p.job (rows_in outputs) pairs (norms_in outputs)) t.out_before t.out_after
 
--- what a fault of this part leaves: of an output file, a prefix of its text may stand there; of standard output, a prefix of the summary; of an input file, nothing has changed
+-- ---- all ends
+-- what a fault of this part leaves: of an output file, a prefix of its text may stand there; of standard output, a prefix of the summary; of a restart file, the backups before it, or nothing where it was to be read; of an input file, nothing has changed
 abbrev pub LeavesCut : Result Plan End → Traces → Part → Type 0
+LeavesCut plan t Ckp0 = IsUntouched t ⊎ IsOkAnd plan (λ p. IsBrokenOff p t)
+LeavesCut plan t Ckp1 = IsUntouched t ⊎ IsOkAnd plan (λ p. IsBrokenOff p t)
 LeavesCut plan t Gra = IsOkAnd plan (λ p. IsCutInFile p t Gra)
 LeavesCut plan t Hil = IsOkAnd plan (λ p. IsCutInFile p t Hil)
 LeavesCut plan t Zhom = IsOkAnd plan (λ p. IsCutInFile p t Zhom)
@@ -69,6 +118,10 @@ LeavesCut plan t part = IsUntouched t
 -- what stands at an end; running out of memory leaves what the fault of some part leaves
 abbrev pub Leaves : Result Plan End → Traces → End → Type 0
 Leaves plan t (Done solutions pairs norms) = IsOkAnd plan (λ p. IsConcluded p t solutions pairs norms)
+Leaves plan t (Overflow stage (Row v)) = IsOkAnd plan (λ p. IsStopped p t (row_overflow stage v))
+Leaves plan t (Overflow stage (Norm d)) = IsOkAnd plan (λ p. IsStopped p t (norm_overflow stage d))
+Leaves plan t (Pairs stage d needed) = IsOkAnd plan (λ p. IsStopped p t (pairs_spent stage d needed))
+Leaves plan t (Rows stage d count) = IsOkAnd plan (λ p. IsStopped p t (rows_spent stage d count))
 Leaves plan t (Outside part) = LeavesCut plan t part
 Leaves plan t Memory = (part : Part) × LeavesCut plan t part
 Leaves plan t end = IsUntouched t

@@ -23,3 +23,8 @@ pub use Rattle.solution_files.specs.Outputs as SolutionOutputs
 pub use Rattle.solution_files.specs.Laws
 pub use Rattle.lift_core.specs.Ends as LiftEnds
 pub use Rattle.int_vector.specs.Vectors
+pub use Rattle.stage_store.specs.Stage
+pub use Rattle.restart_file.specs.Reading
+pub use Rattle.backups.specs.Backups
+pub use Rattle.backups.specs.Starts
+pub use Rattle.backups.specs.Standing

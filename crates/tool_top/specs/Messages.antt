@@ -6,14 +6,16 @@ use Rattle.mat_files.specs.declared.faults.TextFault.{TextFault}
 use Rattle.mat_files.specs.declared.faults.TextFault.TheVariants.{NotNumber, NotRelation, NotCap, OutOfRange, Early, Extra, TooManyRows, TooManyCols, NoCols}
 use Rattle.system_shape.specs.declared.faults.ShapeFault.{ShapeFault}
 use Rattle.system_shape.specs.declared.faults.ShapeFault.TheVariants.{SignNeeded, SignShape, BadSign, Free, RelShape, RhsNotHere, RhsShape, CapShape}
+use Rattle.restart_file.specs.declared.ends.RestartFault.{RestartFault}
+use Rattle.restart_file.specs.declared.ends.RestartFault.TheVariants as fault
 use Rattle.lift_core.specs.declared.Tool.{Tool}
 use Rattle.lift_core.specs.declared.Tool.TheVariants.{Graver, Hilbert, Zsolve}
 use Rattle.lift_run.specs.declared.ends.Place.{Place}
 use Rattle.lift_run.specs.declared.ends.Place.TheVariants.{Row, Norm}
 use Rattle.tool_top.specs.declared.ends.Part.{Part}
-use Rattle.tool_top.specs.declared.ends.Part.TheVariants.{Sign, Rel, Rhs, Cap, Out}
+use Rattle.tool_top.specs.declared.ends.Part.TheVariants.{Sign, Rel, Rhs, Cap, Ckp0, Ckp1, Out}
 use Rattle.tool_top.specs.declared.ends.End.{End}
-use Rattle.tool_top.specs.declared.ends.End.TheVariants.{Done, Usage, Missing, TooLong, Text, Refused, Shape, Overflow, Pairs, Rows, Outside, Memory}
+use Rattle.tool_top.specs.declared.ends.End.TheVariants.{Done, Usage, Missing, TooLong, Text, Refused, Shape, BadRestart, Overflow, Pairs, Rows, Outside, Memory}
 use Rattle.tool_top.specs.Names.{file_name}
 
 abbrev pub tool_name : Tool → List ℕ
@@ -80,6 +82,26 @@ entries cells = map (λ z. 32 ∷ signed_decimal z) cells
 abbrev pub about : List ℕ → Part → List (List ℕ) → List (List ℕ)
 about project part words = part_name project part ∷ codes ": " ∷ words
 
+-- what is wrong in a line of a restart file
+abbrev pub at_line : ℕ → List ℕ → List (List ℕ)
+at_line line cause = codes "line " ∷ decimal line ∷ cause ∷ []
+
+-- why a restart file is not accepted
+abbrev pub cause_of : RestartFault → List (List ℕ)
+cause_of fault.Missing = codes "no such file" ∷ []
+cause_of fault.Digest = codes "digest differs" ∷ []
+cause_of (fault.Text line) = at_line line (codes ": bad text")
+cause_of (fault.OtherSystem line) = at_line line (codes ": other system")
+cause_of (fault.NotSolution line) = at_line line (codes ": not a solution")
+cause_of (fault.Order line) = at_line line (codes ": out of order")
+cause_of (fault.Classes line) = at_line line (codes ": wrong classes")
+cause_of fault.Used = codes "used pairs too few" ∷ []
+
+-- both restart files, each with its cause
+abbrev pub both_causes : List ℕ → RestartFault → RestartFault → List (List ℕ)
+both_causes project first second =
+    about project Ckp0 (cause_of first) ++ codes "; " ∷ about project Ckp1 (cause_of second)
+
 -- the solution with which a product leaves the range, or the norm that does
 abbrev pub overflow_words : ℕ → Place → List (List ℕ)
 overflow_words stage (Row v) = codes "overflow at equation " ∷ decimal stage ∷ codes ": solution" ∷ entries v
@@ -94,6 +116,7 @@ words_of tool project (TooLong part) = about project part (codes "longer than 41
 words_of tool project (Text part fault) = about project part (text_fault fault)
 words_of tool project (Refused part) = about project part (codes "not supported" ∷ [])
 words_of tool project (Shape fault) = about project (shape_part fault) (shape_fault_words fault)
+words_of tool project (BadRestart first second) = both_causes project first second
 words_of tool project (Overflow stage place) = overflow_words stage place
 words_of tool project (Pairs stage norm needed) = codes "pair budget spent at equation " ∷ decimal stage
     ∷ codes ", norm " ∷ decimal norm ∷ codes ": " ∷ decimal needed ∷ codes " pairs needed" ∷ []

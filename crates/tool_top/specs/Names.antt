@@ -1,7 +1,7 @@
 -- The names of a project's files.
 use Rattle.std.specs.Prelude.{ℕ, List, [], ◌++◌, codes}
 use Rattle.tool_top.specs.declared.ends.Part.{Part}
-use Rattle.tool_top.specs.declared.ends.Part.TheVariants.{Mat, Sign, Rel, Rhs, Cap, Lat, Lb, Ub, Gra, Hil, Zhom, Zinhom, Out}
+use Rattle.tool_top.specs.declared.ends.Part.TheVariants.{Mat, Sign, Rel, Rhs, Cap, Lat, Lb, Ub, Ckp0, Ckp1, Gra, Hil, Zhom, Zinhom, Out}
 
 abbrev pub ending : Part → List ℕ
 ending Mat = codes ".mat"
@@ -12,6 +12,8 @@ ending Cap = codes ".cap"
 ending Lat = codes ".lat"
 ending Lb = codes ".lb"
 ending Ub = codes ".ub"
+ending Ckp0 = codes ".ckp0"
+ending Ckp1 = codes ".ckp1"
 ending Gra = codes ".gra"
 ending Hil = codes ".hil"
 ending Zhom = codes ".zhom"

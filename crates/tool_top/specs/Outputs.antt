@@ -1,17 +1,23 @@
 -- The files that a command writes.
-use Rattle.std.specs.Prelude.{◌≡◌, ℕ, ℤ, List, ◌∷◌, [], length, Option, None, Some}
-use Rattle.std.specs.List.{sum_by}
+use Rattle.std.specs.Prelude.{◌≡◌, ℕ, ℤ, List, ◌∷◌, [], length, take, Option, None, Some}
+use Rattle.std.specs.List.{sum_by, AllByRecursion}
 use Rattle.outside.specs.Files.{Files}
 use Rattle.int_vector.specs.Vectors.{norm}
-use Rattle.lift_core.specs.Columns.{Every, Homogeneous, Inhomogeneous}
+use Rattle.lift_core.specs.Columns.{Kind, Every, Homogeneous, Inhomogeneous}
+use Rattle.lift_core.specs.Systems.{LinearSystem, ToolSystem}
+use Rattle.lift_core.specs.Inside.Written.{HasX0}
 use Rattle.lift_core.specs.declared.Tool.{Tool}
 use Rattle.lift_core.specs.declared.Tool.TheVariants.{Graver, Hilbert, Zsolve}
+use Rattle.stage_store.specs.Stage.{IsDefined}
 use Rattle.system_shape.specs.Problem.{UserSystem, IsWantedForUser, IsWantedGraverForUser}
 use Rattle.solution_files.specs.Outputs.{written, text_of_rows}
+use Rattle.backups.specs.declared.starts.Start.{Start}
+use Rattle.backups.specs.declared.starts.Start.TheVariants.{Fresh, Resumed}
+use Rattle.backups.specs.Standing.{IsSolution}
 use Rattle.tool_top.specs.declared.ends.Part.{Part}
 use Rattle.tool_top.specs.declared.ends.Part.TheVariants.{Gra, Hil, Zhom, Zinhom}
 use Rattle.tool_top.specs.Names.{file_name}
-use Rattle.tool_top.specs.Plan.{Plan, project_of, user_of}
+use Rattle.tool_top.specs.Plan.{Plan, user_of, system_of_plan}
 
 -- an output file: which, its text, how many rows it has, and the sum of their norms
 pub record OutputFile : Type 0 where
@@ -36,8 +42,35 @@ AreOutputsOf Zsolve U n files =
     × IsWantedForUser U Inhomogeneous inhom
     × (files ≡ file_of Zhom n hom ∷ file_of Zinhom n inhom ∷ [])
 
-abbrev pub AreOutputs : Plan → List OutputFile → Type 0
-AreOutputs p files = AreOutputsOf p.tool (user_of p) p.input.mat.cols files
+-- x is the first n entries of a nonzero solution of that kind
+pub record IsPartOfSolution (S : LinearSystem) (n : ℕ) (kind : Kind) (x : List ℤ) : Type 0 where
+  pub solution : List ℤ
+  pub solves : IsSolution S solution
+  pub x0 : HasX0 kind solution
+  pub is : x ≡ take n solution
+
+abbrev pub ArePartsOfSolutions : ToolSystem → Kind → List (List ℤ) → Type 0
+ArePartsOfSolutions S kind rows = AllByRecursion (IsPartOfSolution S.equations S.n kind) rows
+
+-- the files of a command, each with solutions alone
+abbrev pub AreSoundOf : Tool → ToolSystem → List OutputFile → Type 0
+AreSoundOf Graver S files =
+    (rows : List (List ℤ)) × ArePartsOfSolutions S Every rows × (files ≡ file_of Gra S.n rows ∷ [])
+AreSoundOf Hilbert S files =
+    (rows : List (List ℤ)) × ArePartsOfSolutions S Every rows × (files ≡ file_of Hil S.n rows ∷ [])
+AreSoundOf Zsolve S files =
+    (hom inhom : List (List ℤ)) × ArePartsOfSolutions S Homogeneous hom
+    × ArePartsOfSolutions S Inhomogeneous inhom
+    × (files ≡ file_of Zhom S.n hom ∷ file_of Zinhom S.n inhom ∷ [])
+
+-- the files of a run from its start. From nothing they have exactly the wanted rows. So they have from the stage of a restart
+-- file whose lists are the defined ones, as those of each earlier run of the system are; from any other accepted file each
+-- row is that of some solution
+abbrev pub AreOutputs : Plan → Start → List OutputFile → Type 0
+AreOutputs p (Fresh S) files = AreOutputsOf p.tool (user_of p) p.input.mat.cols files
+AreOutputs p (Resumed s slot) files =
+    (IsDefined s → AreOutputsOf p.tool (user_of p) p.input.mat.cols files)
+    × AreSoundOf p.tool (system_of_plan p) files
 
 -- the project's files after each of these was written anew, in order
 abbrev pub written_all : List ℕ → List OutputFile → Files → Files
@@ -49,12 +82,6 @@ written_all project (f ∷ fs) files =
 abbrev pub to_write : Option ℕ → List OutputFile → List OutputFile
 to_write None outputs = outputs
 to_write (Some k) outputs = []
-
--- the output files hold exactly the texts of the wanted lists, and all other files are as before
-abbrev pub HasWritten : Plan → Files → Option Files → Type 0
-HasWritten p before after =
-    (outputs : List OutputFile) × AreOutputs p outputs
-    × (after ≡ Some (written_all (project_of p.job) (to_write p.job.tables outputs) before))
 
 -- the numbers of the summary: all rows, and the sum of their norms
 abbrev pub rows_in : List OutputFile → ℕ

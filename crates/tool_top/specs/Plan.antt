@@ -1,5 +1,5 @@
 -- What a command is to do: the first answer that fits, or the plan of its run.
-use Rattle.std.specs.Prelude.{ℕ, ◌&&◌, not, is_none, IsSome, Bool, if◌then◌else◌, List, [], Option, None, Some, Result, Ok, Err, unwrap_or}
+use Rattle.std.specs.Prelude.{ℕ, ◌&&◌, is_none, IsSome, Bool, List, [], Option, None, Some, Result, Ok, Err, unwrap_or}
 use Rattle.outside.specs.Files.{Files}
 use Rattle.lift_core.specs.Systems.{ToolSystem}
 use Rattle.lift_core.specs.declared.Tool.{Tool}
@@ -15,17 +15,22 @@ use Rattle.system_files.specs.declared.faults.InputFault.TheVariants as input_fa
 use Rattle.system_files.specs.Files.{◌>>=◌}
 use Rattle.system_files.specs.Inputs.{unless_fault, accepted_in}
 use Rattle.tool_words.specs.Jobs.{job_of}
+use Rattle.backups.specs.declared.starts.Slot.{Slot}
+use Rattle.backups.specs.declared.starts.Slot.TheVariants.{First, Second}
+use Rattle.backups.specs.Starts.{Stored, stored_in}
 use Rattle.tool_words.specs.declared.jobs.Job.{Job}
 use Rattle.tool_top.specs.declared.ends.Part.{Part}
-use Rattle.tool_top.specs.declared.ends.Part.TheVariants.{Mat, Sign, Rel, Rhs, Cap, Lat, Lb, Ub}
+use Rattle.tool_top.specs.declared.ends.Part.TheVariants.{Mat, Sign, Rel, Rhs, Cap, Lat, Lb, Ub, Ckp0, Ckp1}
 use Rattle.tool_top.specs.declared.ends.End.{End}
 use Rattle.tool_top.specs.declared.ends.End.TheVariants.{Usage, Missing, TooLong, Text, Refused, Shape}
+use Rattle.tool_top.specs.Names.{file_name}
 
--- what the words ask for, the tool, and what the project's files say
+-- what the words ask for, the tool, what the project's files say, and what stands in its restart files
 pub record Plan : Type 0 where
   pub job : Job
   pub tool : Tool
   pub input : Input
+  pub stored : Stored
 
 -- the user's own system, and the linear system with slacks that stands for it
 abbrev pub user_of : Plan → UserSystem
@@ -48,17 +53,22 @@ abbrev pub named_project : Option Job → List ℕ
 named_project None = []
 named_project (Some job) = project_of job
 
--- restart files are not built yet
-abbrev pub is_built : Job → Bool
-is_built job = is_none job.backup && not job.resume
+-- the run goes on from a restart file; with tables there is none
+abbrev pub resumes : Job → Bool
+resumes job = is_none job.tables && job.resume
 
-abbrev pub built_only : Option Job → Option Job
-built_only None = None
-built_only (Some job) = if is_built job then Some job else None
+-- after how many closed norms a backup is written; with tables there is none
+abbrev pub interval_for : Option ℕ → Option ℕ → Option ℕ
+interval_for None backup = backup
+interval_for (Some k) backup = None
 
--- the job of the words, none where they are not of the form
-abbrev pub job_in : Tool → List (List ℕ) → Option Job
-job_in tool words = built_only (job_of tool words)
+-- the restart files, as parts of the project
+abbrev pub part_of_slot : Slot → Part
+part_of_slot First = Ckp0
+part_of_slot Second = Ckp1
+
+abbrev pub stored_of : List ℕ → Files → Stored
+stored_of project files = stored_in (file_name project Ckp0) (file_name project Ckp1) files
 
 -- an input file, as a part of the project
 abbrev pub part_of : Source → Part
@@ -92,7 +102,7 @@ input_in tool None project files = accepted_in tool project files
 abbrev pub plan_of : Tool → Job → Files → Result Plan End
 plan_of tool job files = do
   input ← answered (input_in tool job.tables (project_of job) files)
-  Ok (record { job = job; tool = tool; input = input })
+  Ok (record { job = job; tool = tool; input = input; stored = stored_of (project_of job) files })
 
 abbrev pub plan_for : Tool → Option Job → Files → Result Plan End
 plan_for tool None files = Err Usage
@@ -100,4 +110,4 @@ plan_for tool (Some job) files = plan_of tool job files
 
 -- the first answer, of the words and then of the files; or the plan of the run
 abbrev pub planned : Tool → List (List ℕ) → Files → Result Plan End
-planned tool words files = plan_for tool (job_in tool words) files
+planned tool words files = plan_for tool (job_of tool words) files

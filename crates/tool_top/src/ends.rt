@@ -4,12 +4,14 @@ ghost use Rattle.std.specs.Prelude.{◌≡◌, IsTrue};
 ghost use Rattle.tool_top.specs.declared.ends.End.TheVariants.{Memory};
 ghost use Rattle.tool_top.specs.Messages.{IsDone};
 ghost use Rattle.tool_top.specs.Summary.{code_of};
-ghost use Rattle.tool_top.specs.Plan.{part_of, answer_of};
+ghost use Rattle.tool_top.specs.Plan.{part_of, part_of_slot, answer_of};
 ghost use Rattle.tool_top.specs.Inside.Ends.{end_at, end_of};
 
+use backups::{Slot, StartEnd, Stopped};
 use lift_run::{Place, RunEnd};
 use mat_files::TextFault;
 use outside::PutEnd;
+use restart_file::RestartFault;
 use std::alloc::AllocError;
 use system_files::{FileFault, InputFault, InputStop, Source};
 use system_shape::ShapeFault;
@@ -34,6 +36,10 @@ pub enum Part {
     Lb,
     /// `.ub`, upper bounds, which are not supported.
     Ub,
+    /// `.ckp0`, the first restart file.
+    Ckp0,
+    /// `.ckp1`, the second restart file.
+    Ckp1,
     /// `.gra`, the Graver basis that is written.
     Gra,
     /// `.hil`, the Hilbert basis that is written.
@@ -67,6 +73,8 @@ pub enum End {
     Refused(Part),
     /// The files do not make a system.
     Shape(ShapeFault),
+    /// Neither restart file is accepted; these are the first faults of both.
+    BadRestart(RestartFault, RestartFault),
     /// A product of equation `stage`, or a norm of its stage, leaves the range.
     Overflow {
         stage: u32,
@@ -114,6 +122,16 @@ fn part_of(source: Source) -> Part
     }
 }
 
+// A restart file, as a part of the project.
+fn part_of_slot(slot: Slot) -> Part
+    ensures { result ≡ part_of_slot slot }
+{
+    match slot {
+        Slot::First => Part::Ckp0,
+        Slot::Second => Part::Ckp1,
+    }
+}
+
 // The answer to a fault of the files.
 fn answer_of(fault: InputFault) -> End
     ensures { result ≡ answer_of fault }
@@ -154,13 +172,27 @@ impl From<InputStop> for End {
     }
 }
 
-impl From<RunEnd> for End {
-    ghost use Rattle.tool_top.specs.Inside.Ends.{end_of_run};
+impl From<StartEnd> for End {
+    ghost use Rattle.tool_top.specs.Inside.Ends.{end_of_start};
 
-    ghost from_gives = { λ run end. end ≡ end_of_run run };
+    ghost from_gives = { λ start end. end ≡ end_of_start start };
 
-    fn from(stopped: RunEnd) -> End {
-        match stopped {
+    fn from(refused: StartEnd) -> End {
+        match refused {
+            StartEnd::Refused(first, second) => End::BadRestart(first, second),
+            StartEnd::Failed(slot) => End::Outside(part_of_slot(slot)),
+            StartEnd::Memory => End::Memory,
+        }
+    }
+}
+
+impl From<Stopped> for End {
+    ghost use Rattle.tool_top.specs.Inside.Ends.{end_of_stopped};
+
+    ghost from_gives = { λ stopped end. end ≡ end_of_stopped stopped };
+
+    fn from(stopped: Stopped) -> End {
+        match stopped.end {
             RunEnd::Overflow { stage, place } => End::Overflow { stage, place },
             RunEnd::Pairs {
                 stage,
@@ -172,8 +204,9 @@ impl From<RunEnd> for End {
                 needed,
             },
             RunEnd::Rows { stage, norm, count } => End::Rows { stage, norm, count },
-            // A run whose Keep keeps nothing does not fail.
-            RunEnd::Failed | RunEnd::Memory => End::Memory,
+            // The next backup was refused.
+            RunEnd::Failed => End::Outside(part_of_slot(stopped.next)),
+            RunEnd::Memory => End::Memory,
         }
     }
 }
@@ -238,7 +271,8 @@ pub(crate) fn code(end: &End) -> u8
     match end {
         End::Done { .. } => 0,
         End::Usage => 1,
-        End::Missing(_) | End::TooLong(_) | End::Text(..) | End::Refused(_) | End::Shape(_) => 2,
+        End::Missing(_) | End::TooLong(_) | End::Text(..) | End::Refused(_) => 2,
+        End::Shape(_) | End::BadRestart(..) => 2,
         End::Overflow { .. } => 3,
         End::Pairs { .. } | End::Rows { .. } => 4,
         End::Outside(_) => 5,

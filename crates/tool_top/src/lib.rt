@@ -5,6 +5,7 @@
 //! that its command asks for.
 #![tactic(auto)]
 
+mod causes;
 mod ends;
 mod messages;
 mod names;

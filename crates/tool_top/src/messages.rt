@@ -9,6 +9,7 @@ ghost use Rattle.outside.specs.Causes.{HasCause};
 ghost use Rattle.outside.specs.Pieces.{MayPut, text_of_parts};
 ghost use Rattle.tool_top.specs.Messages.{IsDone, about, bad_sign, entries, message_of, overflow_words, part_name, shape_fault_words, shape_part, text_fault, tool_name, usage_of, words_of, wrong_shape};
 
+use crate::causes::put_causes;
 use crate::names::ending;
 use crate::{End, Part};
 use itoa::Buffer;
@@ -19,7 +20,7 @@ use outside::{PutEnd, Sink, put_pieces};
 use system_shape::ShapeFault;
 
 // Puts a text.
-fn put_text<E: Sink>(err: &mut E, text: &[u8]) -> Result<(), PutEnd>
+pub(crate) fn put_text<E: Sink>(err: &mut E, text: &[u8]) -> Result<(), PutEnd>
     ensures done { OnOk result (E.held err.new ≡ append_known (E.held err.old) (text_of_parts (text.now ∷ []))) }
     ensures refused { OnErr result (MayPut (text_of_parts (text.now ∷ [])) (E.held err.old) (E.held err.new)) }
     ensures cause { HasCause (E.faults err.old) (E.faults err.new) result }
@@ -46,7 +47,7 @@ fn put_three<E: Sink>(err: &mut E, first: &[u8], second: &[u8], third: &[u8]) ->
 }
 
 // Puts a number between two texts.
-fn put_number<E: Sink>(err: &mut E, before: &[u8], number: u64, after: &[u8]) -> Result<(), PutEnd>
+pub(crate) fn put_number<E: Sink>(err: &mut E, before: &[u8], number: u64, after: &[u8]) -> Result<(), PutEnd>
     ensures done { OnOk result (E.held err.new ≡ append_known (E.held err.old) (text_of_parts (before.now ∷ decimal number ∷ after.now ∷ []))) }
     ensures refused { OnErr result (MayPut (text_of_parts (before.now ∷ decimal number ∷ after.now ∷ [])) (E.held err.old) (E.held err.new)) }
     ensures cause { HasCause (E.faults err.old) (E.faults err.new) result }
@@ -88,7 +89,7 @@ fn put_entries<E: Sink>(err: &mut E, cells: &[i64]) -> Result<(), PutEnd>
 }
 
 // Puts the name of a part's file, and a colon.
-fn put_file<E: Sink>(err: &mut E, project: &str, part: Part) -> Result<(), PutEnd>
+pub(crate) fn put_file<E: Sink>(err: &mut E, project: &str, part: Part) -> Result<(), PutEnd>
     ensures done { OnOk result (E.held err.new ≡ append_known (E.held err.old) (text_of_parts (part_name project.now part ∷ codes ": " ∷ []))) }
     ensures refused { OnErr result (MayPut (text_of_parts (part_name project.now part ∷ codes ": " ∷ [])) (E.held err.old) (E.held err.new)) }
     ensures cause { HasCause (E.faults err.old) (E.faults err.new) result }
@@ -377,6 +378,7 @@ fn put_words<E: Sink>(err: &mut E, tool: Tool, project: &str, end: &End) -> Resu
         End::Text(part, fault) => put_text_line(err, project, *part, *fault),
         End::Refused(part) => put_about(err, project, *part, b"not supported"),
         End::Shape(fault) => put_shape_line(err, project, *fault),
+        End::BadRestart(first, second) => put_causes(err, project, *first, *second),
         End::Overflow { stage, place } => put_overflow(err, *stage, place),
         End::Pairs {
             stage,

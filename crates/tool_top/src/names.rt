@@ -18,6 +18,8 @@ pub(crate) fn ending(part: Part) -> &'static str
         Part::Lat => ".lat",
         Part::Lb => ".lb",
         Part::Ub => ".ub",
+        Part::Ckp0 => ".ckp0",
+        Part::Ckp1 => ".ckp1",
         Part::Gra => ".gra",
         Part::Hil => ".hil",
         Part::Zhom => ".zhom",

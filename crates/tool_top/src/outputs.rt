@@ -5,10 +5,9 @@ ghost use Rattle.std.specs.Option.{option_map};
 ghost use Rattle.int_vector.specs.Vectors.{norm};
 ghost use Rattle.outside.specs.Causes.{Rose};
 ghost use Rattle.lift_core.specs.ToolSystems.{width};
-ghost use Rattle.solution_files.specs.Laws.{AreAllSolutions};
-ghost use Rattle.solution_files.specs.Outputs.{kind_of};
+ghost use Rattle.solution_files.specs.Outputs.{IsSelected};
 ghost use Rattle.tool_top.specs.Outputs.{file_of, rows_in, norms_in, written_all};
-ghost use Rattle.tool_top.specs.Inside.Writing.{output_of, outputs_of, IsWantedBy, AreFilesOf, CutsTo};
+ghost use Rattle.tool_top.specs.Inside.Writing.{output_of, outputs_of, AreSelectedOf, CutsTo};
 
 use crate::ends::refused_at;
 use crate::names::ending;
@@ -34,18 +33,16 @@ pub(crate) struct Outputs {
     list: Vec<Output>,
 }
 
-// The output file of the wanted rows of one kind.
+// The output file of the selected rows of one kind.
 fn select_output(
     alloc: Global,
     finish: &Finish,
     part: Part,
     kind: Kind,
 ) -> Result<Output, AllocError>
-    requires width { finish.now.rows.width ≡ width finish.now.system.equations }
-    requires solutions { AreAllSolutions finish.now.system finish.now.rows.rows }
-    requires kind { finish.now.system.tool ≡ Tool.Graver → kind ≡ Kind.All }
+    requires { finish.now.rows.width ≡ width finish.now.system.equations }
     ensures { IfOk result (λ o. (rows : List (List ℤ))
-        × IsWantedBy finish.now.system.tool finish.now.system (kind_of kind) rows
+        × IsSelected finish.now.system finish.now.rows.rows kind rows
         × (output_of o ≡ file_of part finish.now.system.n rows)) }
 {
     let grid = select(alloc, finish, kind)?;
@@ -54,9 +51,9 @@ fn select_output(
 
 // The output files of a finished run.
 pub(crate) fn select_outputs(alloc: Global, finish: &Finish) -> Result<Outputs, AllocError>
-    requires width { finish.now.rows.width ≡ width finish.now.system.equations }
-    requires solutions { AreAllSolutions finish.now.system finish.now.rows.rows }
-    ensures files { IfOk result (λ o. AreFilesOf finish.now.system.tool finish.now.system (outputs_of o)) }
+    requires { finish.now.rows.width ≡ width finish.now.system.equations }
+    ensures files { IfOk result (λ o.
+        AreSelectedOf finish.now.system.tool finish.now.system finish.now.rows.rows (outputs_of o)) }
     ensures few { IfOk result (λ o. vec_len o.list ≤ 2) }
 {
     let mut list = Vec::with_capacity(alloc, 2)?;

@@ -4,31 +4,40 @@ ghost use Rattle.std.specs.Prelude.{◌≡◌, ◌≢◌, ◌⊎◌, ◌≤◌, 
 ghost use Rattle.outside.specs.Causes.{Rose};
 ghost use Rattle.system_files.specs.Inputs.{IsShaped, FindsBy, HasStopCause, unless_fault};
 ghost use Rattle.system_files.specs.declared.sources.Source.{Source};
-ghost use Rattle.system_shape.specs.Shape.{shape_fault};
+ghost use Rattle.system_shape.specs.Shape.{shape_fault, tool_system};
 ghost use Rattle.system_shape.specs.Tables.{tables_input};
+ghost use Rattle.system_shape.specs.declared.files.Input.{Input};
 ghost use Rattle.std.specs.Option.{option_map};
-ghost use Rattle.tool_words.specs.Jobs.{IsWithinLimits};
+ghost use Rattle.lift_run.specs.Runs.{IsOfSystem, HasAllSolutions};
+ghost use Rattle.backups.specs.Starts.{Stored, HasStartCause, IsDefinedStart, StartComesTo, system_of};
+ghost use Rattle.backups.specs.Standing.{LeavesRun, IsSoundFrom, HasStoppedCause, named_end};
+ghost use Rattle.tool_words.specs.Jobs.{IsWithinLimits, job_of};
 ghost use Rattle.tool_words.specs.declared.jobs.Job.{Job};
-ghost use Rattle.tool_top.specs.Plan.{planned, plan_of, plan_for, HasTables, input_in, job_in, named_project, project_of, is_built};
-ghost use Rattle.tool_top.specs.Outputs.{HasWritten, to_write, written_all};
-ghost use Rattle.tool_top.specs.Expected.{ComesTo, IsExpected, OnDone};
+ghost use Rattle.lift_core.specs.declared.Tool.{Tool};
+ghost use Rattle.tool_top.specs.Plan.{planned, plan_of, plan_for, HasTables, input_in, interval_for, named_project, project_of, resumes, stored_of};
+ghost use Rattle.tool_top.specs.Outputs.{to_write, written_all};
+ghost use Rattle.tool_top.specs.Expected.{ComesTo, IsExpected, OnDone, StartsAs, limits_of};
 ghost use Rattle.tool_top.specs.Messages.{Speaks};
 ghost use Rattle.tool_top.specs.Summary.{Tells, code_of};
-ghost use Rattle.tool_top.specs.Left.{Leaves};
-ghost use Rattle.tool_top.specs.Inside.Ends.{Ends, Asks, end_of, HasSinkCause};
+ghost use Rattle.tool_top.specs.Left.{HasWritten, Leaves, turns_for};
+ghost use Rattle.tool_top.specs.Inside.Ends.{Ends, Asks, FindsStartOf, end_of, HasSinkCause};
+ghost use Rattle.tool_top.specs.Inside.Names.{AreRestartNames};
 ghost use Rattle.tool_top.specs.Inside.Writing.{outputs_of, CutsTo, TellsOf};
 
 use crate::ends::{Totals, code, is_done, refused_at, settle};
 use crate::messages::put_message;
+use crate::names::ending;
 use crate::outputs::{Outputs, count_rows, norm_total, select_outputs, write_outputs};
 use crate::summary::put_summary;
 use crate::{End, Part, Status};
-use lift_core::Tool;
-use lift_run::{Limits, NoKeep, run_system};
+use backups::{BackupPlan, Start, StartEnd, Stopped, read_start, run_start};
+use lift_core::{System, Tool};
+use lift_run::Limits;
 use outside::{Folder, Sink, Words};
-use std::alloc::Global;
+use stage_store::Finish;
+use std::alloc::{AllocError, Global};
 use std::thread::Threads;
-use system_files::{InputStop, Shaped, read_shaped, shape_input};
+use system_files::{InputStop, Shaped, file_name, read_shaped, shape_input};
 use system_shape::tables;
 use tool_words::{Job, WordEnd, read_words};
 use worker_gate::Gate;
@@ -43,24 +52,40 @@ fn project_of(job: &Job) -> &str
     }
 }
 
-// Whether all that the job asks for is built: restart files are not yet.
-fn is_built(job: &Job) -> bool
-    ensures { result ≡ is_built job.now }
+// After how many closed norms a backup is written. With tables there is none.
+fn interval_for(job: &Job) -> Option<u32>
+    requires { IsWithinLimits job.now }
+    ensures interval { result ≡ interval_for job.now.tables job.now.backup }
+    ensures some { IfSome result (λ n. 1 ≤ n) }
 {
-    job.backup.is_none() && !job.resume
+    match job.tables {
+        None => job.backup,
+        Some(_) => None,
+    }
 }
 
-// The job of the words.
-fn job_in(alloc: Global, tool: Tool, words: &Words) -> Result<Job, WordEnd>
-    ensures asks { Asks (job_in tool words.now) result }
-    ensures within { IfOk result IsWithinLimits }
+// Whether the run goes on from a restart file. With tables there is none.
+fn resumes(job: &Job) -> bool
+    ensures { result ≡ resumes job.now }
 {
-    let job = read_words(alloc, tool, words)?;
-    if is_built(&job) {
-        Ok(job)
-    } else {
-        Err(WordEnd::Usage)
-    }
+    job.tables.is_none() && job.resume
+}
+
+// The names of a project's restart files.
+#[derive(Drop)]
+struct RestartNames {
+    first: String,
+    second: String,
+}
+
+// Makes the names of the restart files of the job's project.
+fn restart_names(alloc: Global, job: &Job) -> Result<RestartNames, AllocError>
+    ensures { IfOk result (AreRestartNames (project_of job.now)) }
+{
+    let project = project_of(job);
+    let first = file_name(alloc, project, ending(Part::Ckp0))?;
+    let second = file_name(alloc, project, ending(Part::Ckp1))?;
+    Ok(RestartNames { first, second })
 }
 
 // Puts the summary of outputs that are written, and gives their numbers.
@@ -81,21 +106,83 @@ fn tell<O: Sink>(out: &mut O, job: &Job, outputs: &Outputs, pairs: u64) -> Resul
     }
 }
 
-// Solves the system of a project, writes the output files, and tells the summary.
+// Where the run of a job starts.
+fn find_start<F: Folder>(
+    alloc: Global,
+    job: &Job,
+    folder: &mut F,
+    system: System,
+    names: &RestartNames,
+) -> Result<Start, StartEnd>
+    requires { AreRestartNames (project_of job.now) names.now }
+    ensures found { IfSome (F.held folder.old) (λ files.
+        FindsStartOf (resumes job.now) system (stored_of (project_of job.now) files) result) }
+    ensures same { F.held folder.new ≡ F.held folder.old }
+    ensures apart { IsSome job.now.tables → folder.new ≡ folder.old }
+    ensures cause { HasStartCause (F.faults folder.old) (F.faults folder.new) result }
+{
+    if resumes(job) {
+        return read_start(
+            alloc,
+            folder,
+            &system,
+            names.first.as_str(),
+            names.second.as_str(),
+        );
+    }
+    Ok(Start::Fresh(system))
+}
+
+// Runs from a start, within the budgets of the job and with its backups.
+fn run_job<R: Threads + Sync, F: Folder, G: Gate + Sync>(
+    rt: &R,
+    alloc: Global,
+    job: &Job,
+    start: Start,
+    names: &RestartNames,
+    folder: &mut F,
+    gate: &G,
+) -> Result<Finish, Stopped>
+    requires names { AreRestartNames (project_of job.now) names.now }
+    requires within { IsWithinLimits job.now }
+    ensures comes { IfSome (named_end result) (StartComesTo (limits_of job.now) start) }
+    ensures system { IfOk result (IsOfSystem (system_of start)) }
+    ensures rows { IsDefinedStart start → IfOk result HasAllSolutions }
+    ensures sound { IfOk result (IsSoundFrom start) }
+    ensures leaves { IfSome (F.held folder.old) (λ files.
+        LeavesRun (turns_for job.now start) (limits_of job.now) start (named_end result) files (F.held folder.new)) }
+    ensures apart { IsSome job.now.tables → folder.new ≡ folder.old }
+    ensures cause { HasStoppedCause (F.faults folder.old) (F.faults folder.new) result }
+{
+    let limits = Limits {
+        workers: job.workers,
+        pairs: job.pairs,
+        rows: job.rows,
+    };
+    let plan = BackupPlan {
+        first: names.first.as_str(),
+        second: names.second.as_str(),
+        interval: interval_for(job),
+    };
+    run_start(rt, alloc, start, limits, gate, folder, plan)
+}
+
+// Solves a system from a start, writes the output files, and tells the summary.
 fn carry_out<R: Threads + Sync, F: Folder, O: Sink, G: Gate + Sync>(
     rt: &R,
     alloc: Global,
-    tool: Tool,
     job: &Job,
-    shaped: Shaped,
+    start: Start,
+    names: &RestartNames,
     folder: &mut F,
     out: &mut O,
     gate: &G,
 ) -> Result<Totals, End>
-    requires shaped { IsShaped tool shaped.input shaped.system }
+    requires names { AreRestartNames (project_of job.now) names.now }
     requires within { IsWithinLimits job.now }
-    ensures ends { IfSome (F.held folder.old) (λ files.
-        Ends (Ok (record { job = job.now; tool = tool; input = shaped.input }))
+    ensures ends { (tool : Tool) (input : Input) (stored : Stored) → IsShaped tool input (tool_system tool input)
+        → StartsAs (record { job = job.now; tool = tool; input = input; stored = stored }) start
+        → IfSome (F.held folder.old) (λ files. Ends (Ok (record { job = job.now; tool = tool; input = input; stored = stored }))
         (record { files_before = files; files_after = F.held folder.new; out_before = O.held out.old; out_after = O.held out.new })
         (end_of result)) }
     ensures apart { IsSome job.now.tables → folder.new ≡ folder.old }
@@ -105,12 +192,7 @@ fn carry_out<R: Threads + Sync, F: Folder, O: Sink, G: Gate + Sync>(
         → Rose (F.faults folder.old) (F.faults folder.new) }
     ensures out_fault { end_of result ≡ End.Outside Part.Out → Rose (O.faults out.old) (O.faults out.new) }
 {
-    let limits = Limits {
-        workers: job.workers,
-        pairs: job.pairs,
-        rows: job.rows,
-    };
-    let finish = run_system(rt, alloc, shaped.system, limits, gate, &mut NoKeep)?;
+    let finish = run_job(rt, alloc, job, start, names, folder, gate)?;
     let outputs = select_outputs(alloc, &finish)?;
     write_job(alloc, job, folder, &outputs)?;
     tell(out, job, &outputs, finish.pairs)
@@ -192,7 +274,9 @@ fn attempt<R: Threads + Sync, F: Folder, O: Sink, G: Gate + Sync>(
     ensures out_fault { end_of result ≡ End.Outside Part.Out → Rose (O.faults out.old) (O.faults out.new) }
 {
     let shaped = read_job(alloc, tool, job, folder)?;
-    carry_out(rt, alloc, tool, job, shaped, folder, out, gate)
+    let names = restart_names(alloc, job)?;
+    let start = find_start(alloc, job, folder, shaped.system, &names)?;
+    carry_out(rt, alloc, job, start, &names, folder, out, gate)
 }
 
 // Puts the line of an end that is not Done. Where that is refused, nothing else changes.
@@ -264,10 +348,15 @@ fn finish<R: Threads + Sync, F: Folder, O: Sink, E: Sink, G: Gate + Sync>(
 /// `P.hil`; `zsolve` writes the minimal homogeneous solutions to `P.zhom` and the minimal inhomogeneous ones to
 /// `P.zinhom`. The rows are in lexicographic order.
 ///
-/// The end is the first that fits: [`End::Usage`] where the words are not of the form (restart files are not built
-/// yet, and their options are such words); for `.mat`, `.sign`, `.rel`, `.rhs`, `.cap` in turn [`End::Missing`]
-/// (`.mat` alone), [`End::TooLong`], [`End::Text`]; [`End::Refused`] where `.lat`, `.lb` or `.ub` is there;
-/// [`End::Shape`]; [`End::Overflow`], [`End::Pairs`] or [`End::Rows`] as the run comes to it; else [`End::Done`].
+/// With `--backup=N` a restart file is written after every N norms that the run closes, to `P.ckp0` and `P.ckp1` in turn.
+/// With `--resume` the run goes on from the one of both that is accepted and has the later place, or from `P.ckp0` where
+/// both have the same, and its first backup goes to the other. A run that is resumed from a file of an earlier run of the
+/// system ends and writes as the run that never stopped; from any other accepted file it writes solutions alone.
+///
+/// The end is the first that fits: [`End::Usage`] where the words are not of the form; for `.mat`, `.sign`, `.rel`, `.rhs`,
+/// `.cap` in turn [`End::Missing`] (`.mat` alone), [`End::TooLong`], [`End::Text`]; [`End::Refused`] where `.lat`, `.lb` or
+/// `.ub` is there; [`End::Shape`]; [`End::BadRestart`] where a run is to be resumed and neither restart file is accepted;
+/// [`End::Overflow`], [`End::Pairs`] or [`End::Rows`] as the run comes to it; else [`End::Done`].
 /// [`End::Outside`] may come in place of each but `Usage`, and [`End::Memory`] in place of each.
 pub fn run_tool<R: Threads + Sync, F: Folder, O: Sink, E: Sink, G: Gate + Sync>(
     rt: &R,
@@ -280,7 +369,8 @@ pub fn run_tool<R: Threads + Sync, F: Folder, O: Sink, E: Sink, G: Gate + Sync>(
     gate: &G,
 ) -> Status
     // Where the folder tells its files: at Done, the output files hold exactly the wanted rows of the user's own system,
-    // and all other files are as before.
+    // the restart files have their backups, and all other files are as before. (Where a run is resumed, `AreOutputs` says
+    // from which files: from each that an earlier run of the system has written.)
     ensures written { IfSome (F.held folder.old) (λ files.
         OnDone result.end (IsOkAnd (planned tool words.now files) (λ plan. HasWritten plan files (F.held folder.new)))) }
 
@@ -298,14 +388,14 @@ pub fn run_tool<R: Threads + Sync, F: Folder, O: Sink, E: Sink, G: Gate + Sync>(
         result.end) }
 
     // With tables, no call of the folder is made.
-    ensures apart { HasTables (job_in tool words.now) → folder.new ≡ folder.old }
+    ensures apart { HasTables (job_of tool words.now) → folder.new ≡ folder.old }
 
     // What standard output has gained, whether or not the folder tells its files.
-    ensures tells { Tells (job_in tool words.now) (O.held out.old) (O.held out.new) result.end }
+    ensures tells { Tells (job_of tool words.now) (O.held out.old) (O.held out.new) result.end }
 
     // Whether the words are a command's is decided by the words alone; memory may run out while they are read.
-    ensures words { result.end ≡ End.Usage → job_in tool words.now ≡ None }
-    ensures usage { job_in tool words.now ≡ None → (result.end ≡ End.Usage) ⊎ (result.end ≡ End.Memory) }
+    ensures words { result.end ≡ End.Usage → job_of tool words.now ≡ None }
+    ensures usage { job_of tool words.now ≡ None → (result.end ≡ End.Usage) ⊎ (result.end ≡ End.Memory) }
 
     // A device's fault is answered only where its count rose.
     ensures folder_fault { (p : Part) → result.end ≡ End.Outside p → p ≢ Part.Out
@@ -315,9 +405,9 @@ pub fn run_tool<R: Threads + Sync, F: Folder, O: Sink, E: Sink, G: Gate + Sync>(
     ensures code { result.code ≡ code_of result.end }
 
     // At each end but Done, standard error has gained its line, or a prefix of it where that was refused.
-    ensures message { Speaks tool (named_project (job_in tool words.now)) result.end (E.held err.old) (E.held err.new) }
+    ensures message { Speaks tool (named_project (job_of tool words.now)) result.end (E.held err.old) (E.held err.new) }
 {
-    let job = job_in(alloc, tool, words);
+    let job = read_words(alloc, tool, words);
     let end = finish(rt, alloc, tool, job, folder, out, err, gate);
     Status {
         code: code(&end),

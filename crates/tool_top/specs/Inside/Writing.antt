@@ -9,6 +9,8 @@ use Rattle.lift_core.specs.declared.Tool.{Tool}
 use Rattle.lift_core.specs.declared.Tool.TheVariants.{Graver, Hilbert, Zsolve}
 use Rattle.lift_core.specs.Columns.{Kind, Every, Homogeneous, Inhomogeneous}
 use Rattle.lift_core.specs.Inside.Written.{IsWanted, IsWantedGraver}
+use Rattle.solution_files.specs.declared.selection.Kind.TheVariants.{All, Hom, Inhom}
+use Rattle.solution_files.specs.Outputs.{IsSelected}
 use Rattle.tool_words.specs.declared.jobs.Job.{Job}
 use Rattle.tool_top.specs.declared.ends.Part.{Part}
 use Rattle.tool_top.specs.declared.ends.Part.TheVariants.{Gra, Hil, Zhom, Zinhom, Out}
@@ -27,6 +29,16 @@ abbrev pub IsWantedBy : Tool → ToolSystem → Kind → List (List ℤ) → Typ
 IsWantedBy Graver S kind rows = IsWantedGraver S.equations S.n rows
 IsWantedBy Hilbert S kind rows = IsWanted S.equations S.n kind rows
 IsWantedBy Zsolve S kind rows = IsWanted S.equations S.n kind rows
+
+-- the files of a tool, each with the rows of its kind that are selected from the finished ones
+abbrev pub AreSelectedOf : Tool → ToolSystem → List (List ℤ) → List OutputFile → Type 0
+AreSelectedOf Graver S finished files =
+    (rows : List (List ℤ)) × IsSelected S finished All rows × (files ≡ file_of Gra S.n rows ∷ [])
+AreSelectedOf Hilbert S finished files =
+    (rows : List (List ℤ)) × IsSelected S finished All rows × (files ≡ file_of Hil S.n rows ∷ [])
+AreSelectedOf Zsolve S finished files =
+    (hom inhom : List (List ℤ)) × IsSelected S finished Hom hom × IsSelected S finished Inhom inhom
+    × (files ≡ file_of Zhom S.n hom ∷ file_of Zinhom S.n inhom ∷ [])
 
 -- the files of a tool for a linear system
 abbrev pub AreFilesOf : Tool → ToolSystem → List OutputFile → Type 0

@@ -71,3 +71,9 @@ returns-in-Memory-clause-done g c = rw c.in-Memory.is c.put_text-in-Memory.ensur
 
 pub returns-in-Memory-clause-refused : goal.returns-in-Memory-clause-refused
 returns-in-Memory-clause-refused g c = rw c.in-Memory.is c.put_text-in-Memory.ensures.refused
+
+pub returns-in-BadRestart-clause-done : goal.returns-in-BadRestart-clause-done
+returns-in-BadRestart-clause-done g c = rw c.in-BadRestart.is c.put_causes.ensures.done
+
+pub returns-in-BadRestart-clause-refused : goal.returns-in-BadRestart-clause-refused
+returns-in-BadRestart-clause-refused g c = rw c.in-BadRestart.is c.put_causes.ensures.refused

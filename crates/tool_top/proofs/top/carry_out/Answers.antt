@@ -1,38 +1,56 @@
-use Rattle.tool_top.specs.Outputs.{AreOutputs}
-use Rattle.tool_top.specs.Expected.{FinishesWith}
+-- Each way out of the run of a job is an end of its plan.
+use Rattle.std.proofs.Common.{refl}
+use Rattle.lift_core.specs.Ends.{finished}
+use Rattle.tool_top.specs.Plan.{project_of}
+use Rattle.tool_top.specs.Expected.{Finishes}
 use Rattle.tool_top.specs.Inside.Writing.{outputs_of}
-use Rattle.tool_top.proofs.Conclusions.{cut_is_not_out, ends-run, ends-memory, ends-cut, ends-told, tells-told}
-use Rattle.tool_top.proofs.Wanted.{wanted_outputs, finishes_with}
+use Rattle.std.specs.Prelude.{Some}
+use Rattle.outside.specs.Causes.{Rose}
+use Rattle.tool_top.proofs.Finished.{run_fault, run_not_out, run_not_usage, tells-run, ends-run, ends-memory, cut_is_not_out, ends-cut, ends-told, tells-told}
+use Rattle.tool_top.proofs.Wanted.{finish_of}
 use Rattle.tool_top.proofs.top.carry_out.Goals as goal
 
 pub returns-in_err-finish-clause-ends : goal.returns-in_err-finish-clause-ends
 returns-in_err-finish-clause-ends g c =
-    ends-run c.args.tool c.args.job.now c.args.shaped.input (g.F.Folder.held c.args.folder.now) (g.O.Sink.held c.args.out.now) c.in_err-finish.field-0.0 c.from_residual.result
-    c.args.shaped.system c.requires.shaped.is c.in_err-finish.ensures.end c.from_residual.ensures.1
+    λ tool input stored shaped starts. ends-run tool c.args.job.now input stored c.args.start starts (g.F.Folder.held c.args.folder.now) (g.F.Folder.held c.run_job.new.folder) (g.O.Sink.held c.args.out.now)
+    c.in_err-finish.field-0.0 c.from_residual.result c.in_err-finish.ensures.comes c.in_err-finish.ensures.leaves c.from_residual.ensures.1
+
+pub returns-in_err-finish-clause-tells : goal.returns-in_err-finish-clause-tells
+returns-in_err-finish-clause-tells g c = tells-run (Some c.args.job.now) (g.O.Sink.held c.args.out.now) c.from_residual.result c.in_err-finish.field-0.0 c.from_residual.ensures.1
+
+pub returns-in_err-finish-clause-words : goal.returns-in_err-finish-clause-words
+returns-in_err-finish-clause-words g c = run_not_usage c.from_residual.result c.in_err-finish.field-0.0 c.from_residual.ensures.1
+
+pub returns-in_err-finish-clause-folder_fault : goal.returns-in_err-finish-clause-folder_fault
+returns-in_err-finish-clause-folder_fault g c =
+    λ p is other. run_fault c.from_residual.result c.in_err-finish.field-0.0 (Rose (g.F.Folder.faults c.args.folder.now) (g.F.Folder.faults c.run_job.new.folder)) p c.from_residual.ensures.1
+    (λ failed. c.in_err-finish.ensures.cause.failed c.in_err-finish.field-0.0 refl failed) is
+
+pub returns-in_err-finish-clause-out_fault : goal.returns-in_err-finish-clause-out_fault
+returns-in_err-finish-clause-out_fault g c = λ is. absurd (run_not_out c.from_residual.result c.in_err-finish.field-0.0 c.from_residual.ensures.1 is)
 
 pub returns-in_err-outputs-clause-ends : goal.returns-in_err-outputs-clause-ends
 returns-in_err-outputs-clause-ends g c =
-    ends-memory c.args.tool c.args.job.now c.args.shaped.input (g.F.Folder.held c.args.folder.now) (g.O.Sink.held c.args.out.now) c.from_residual-in_err-outputs.result c.from_residual-in_err-outputs.ensures.1
+    λ tool input stored shaped starts. ends-memory tool c.args.job.now input stored c.args.start starts (g.F.Folder.held c.args.folder.now) (g.F.Folder.held c.run_job.new.folder) (g.O.Sink.held c.args.out.now)
+    (finished c.in_ok-finish.finish.rows.rows c.in_ok-finish.finish.pairs) c.from_residual-in_err-outputs.result c.in_ok-finish.ensures.leaves c.from_residual-in_err-outputs.ensures.1
 
 pub returns-in_err-write_job-clause-ends : goal.returns-in_err-write_job-clause-ends
 returns-in_err-write_job-clause-ends g c =
-    let wanted : AreOutputs (record { job = c.args.job.now; tool = c.args.tool; input = c.args.shaped.input }) (outputs_of c.in_ok-outputs.outputs) =
-    wanted_outputs c.args.tool c.args.job.now c.args.shaped.input c.args.shaped.system c.requires.shaped c.in_ok-finish.finish.system (outputs_of c.in_ok-outputs.outputs) c.in_ok-finish.ensures.system c.in_ok-outputs.ensures.files in
-    let finishes : FinishesWith (record { job = c.args.job.now; tool = c.args.tool; input = c.args.shaped.input }) c.in_ok-finish.finish.pairs =
-    finishes_with c.args.tool c.args.job.now c.args.shaped.input c.args.shaped.system c.requires.shaped c.in_ok-finish.finish.rows.rows c.in_ok-finish.finish.pairs c.in_ok-finish.ensures.end in
-    ends-cut c.args.tool c.args.job.now c.args.shaped.input (outputs_of c.in_ok-outputs.outputs) c.in_ok-finish.finish.pairs wanted finishes
-    (g.F.Folder.held c.args.folder.now) (g.F.Folder.held c.write_job.new.folder) (g.O.Sink.held c.args.out.now) c.in_err-write_job.field-0.0 c.from_residual-in_err-write_job.result
-    c.in_err-write_job.ensures.refused c.from_residual-in_err-write_job.ensures.1
+    λ tool input stored shaped starts.
+    ends-cut tool c.args.job.now input stored c.in_ok-finish.finish.system c.in_ok-finish.finish.rows.rows (outputs_of c.in_ok-outputs.outputs) c.in_ok-outputs.ensures.files c.in_ok-finish.finish.pairs
+    (finish_of tool c.args.job.now input stored shaped c.args.start c.in_ok-finish.finish (outputs_of c.in_ok-outputs.outputs) starts c.in_ok-finish.ensures.comes c.in_ok-finish.ensures.system
+    c.in_ok-finish.ensures.rows c.in_ok-finish.ensures.sound c.in_ok-outputs.ensures.files)
+    (g.F.Folder.held c.args.folder.now) (g.F.Folder.held c.run_job.new.folder) (g.F.Folder.held c.write_job.new.folder) (g.O.Sink.held c.args.out.now) c.in_err-write_job.field-0.0
+    c.from_residual-in_err-write_job.result c.in_ok-finish.ensures.leaves c.in_err-write_job.ensures.refused c.from_residual-in_err-write_job.ensures.1
 
 pub returns-clause-ends : goal.returns-clause-ends
 returns-clause-ends g c =
-    let wanted : AreOutputs (record { job = c.args.job.now; tool = c.args.tool; input = c.args.shaped.input }) (outputs_of c.in_ok-outputs.outputs) =
-    wanted_outputs c.args.tool c.args.job.now c.args.shaped.input c.args.shaped.system c.requires.shaped c.in_ok-finish.finish.system (outputs_of c.in_ok-outputs.outputs) c.in_ok-finish.ensures.system c.in_ok-outputs.ensures.files in
-    let finishes : FinishesWith (record { job = c.args.job.now; tool = c.args.tool; input = c.args.shaped.input }) c.in_ok-finish.finish.pairs =
-    finishes_with c.args.tool c.args.job.now c.args.shaped.input c.args.shaped.system c.requires.shaped c.in_ok-finish.finish.rows.rows c.in_ok-finish.finish.pairs c.in_ok-finish.ensures.end in
-    ends-told c.args.tool c.args.job.now c.args.shaped.input (outputs_of c.in_ok-outputs.outputs) c.in_ok-finish.finish.pairs wanted finishes
-    (g.F.Folder.held c.args.folder.now) (g.F.Folder.held c.write_job.new.folder) (g.O.Sink.held c.args.out.now) (g.O.Sink.held c.tell.new.out) c.tell.result
-    c.in_ok-write_job.ensures.done c.tell.ensures.told
+    λ tool input stored shaped starts.
+    ends-told tool c.args.job.now input stored c.in_ok-finish.finish.system c.in_ok-finish.finish.rows.rows (outputs_of c.in_ok-outputs.outputs) c.in_ok-outputs.ensures.files c.in_ok-finish.finish.pairs
+    (finish_of tool c.args.job.now input stored shaped c.args.start c.in_ok-finish.finish (outputs_of c.in_ok-outputs.outputs) starts c.in_ok-finish.ensures.comes c.in_ok-finish.ensures.system
+    c.in_ok-finish.ensures.rows c.in_ok-finish.ensures.sound c.in_ok-outputs.ensures.files)
+    (g.F.Folder.held c.args.folder.now) (g.F.Folder.held c.run_job.new.folder) (g.F.Folder.held c.write_job.new.folder) (g.O.Sink.held c.args.out.now) (g.O.Sink.held c.tell.new.out) c.tell.result
+    c.in_ok-finish.ensures.leaves c.in_ok-write_job.ensures.done c.tell.ensures.told
 
 pub returns-clause-tells : goal.returns-clause-tells
 returns-clause-tells g c =
@@ -40,7 +58,6 @@ returns-clause-tells g c =
 
 pub returns-in_err-write_job-clause-out_fault : goal.returns-in_err-write_job-clause-out_fault
 returns-in_err-write_job-clause-out_fault g c =
-    let wanted : AreOutputs (record { job = c.args.job.now; tool = c.args.tool; input = c.args.shaped.input }) (outputs_of c.in_ok-outputs.outputs) =
-    wanted_outputs c.args.tool c.args.job.now c.args.shaped.input c.args.shaped.system c.requires.shaped c.in_ok-finish.finish.system (outputs_of c.in_ok-outputs.outputs) c.in_ok-finish.ensures.system c.in_ok-outputs.ensures.files in
-    λ is. absurd (cut_is_not_out c.args.tool c.args.job.now c.args.shaped.input (outputs_of c.in_ok-outputs.outputs) wanted c.from_residual-in_err-write_job.result c.in_err-write_job.field-0.0
-    (g.F.Folder.held c.args.folder.now) (g.F.Folder.held c.write_job.new.folder) c.in_err-write_job.ensures.refused c.from_residual-in_err-write_job.ensures.1 is)
+    λ is. absurd (cut_is_not_out c.in_ok-finish.finish.system c.in_ok-finish.finish.rows.rows (project_of c.args.job.now) c.args.job.now.tables (outputs_of c.in_ok-outputs.outputs) c.in_ok-outputs.ensures.files
+    c.from_residual-in_err-write_job.result c.in_err-write_job.field-0.0 (g.F.Folder.held c.run_job.new.folder) (g.F.Folder.held c.write_job.new.folder) c.in_err-write_job.ensures.refused
+    c.from_residual-in_err-write_job.ensures.1 is)
