@@ -1,13 +1,14 @@
 -- The user's rows by their places, and files without a fault.
-use Rattle.std.proofs.Common.{◌≡◌, ℕ, zero, suc, ◌+◌, ◌<◌, ◌≤◌, List, [], ◌∷◌, length, get_or, drop, refl, ap, sym, ◌∙◌, arith, Option, None, Some}
-use Rattle.std.specs.Prelude.{ℤ, pos}
+use Rattle.std.proofs.Common.{◌≡◌, ℕ, zero, suc, ◌+◌, ◌<◌, ◌≤◌, List, [], ◌∷◌, length, get_or, drop, refl, ap, sym, ◌∙◌, arith, Option, None, Some, true, false}
+use Rattle.std.proofs.lemmas.Bool.{eqb-true}
+use Rattle.std.specs.Prelude.{ℤ, pos, ◌==◌}
 use Rattle.std.specs.Option.{option_or}
 use Rattle.lift_core.specs.declared.Tool.{Tool}
 use Rattle.lift_core.proofs.Cells.{length-cut_rows}
 use Rattle.mat_files.specs.declared.relations.Rel.{Rel}
 use Rattle.mat_files.specs.declared.relations.Rel.TheVariants.{Equal}
 use Rattle.system_shape.specs.Problem.{UserRow}
-use Rattle.system_shape.specs.Shape.{relation_of, user_rows, user_system, given_relations, given_rights, sign_fault, relation_fault, right_fault, cap_fault, shape_fault}
+use Rattle.system_shape.specs.Shape.{line_fault, relation_of, user_rows, user_system, given_relations, given_rights, sign_fault, relation_fault, right_fault, cap_fault, shape_fault}
 use Rattle.system_shape.specs.declared.files.Input.{Input}
 use Rattle.system_shape.specs.declared.faults.ShapeFault.{ShapeFault}
 use Rattle.system_files.specs.Kernel.{rows_in}
@@ -56,3 +57,15 @@ no_faults tool input e =
     let second = neither (relation_fault input.mat.rows input.rel) (option_or (right_fault tool input.mat.rows input.rhs) (cap_fault input.mat.cols input.cap)) first.1 in
     let third = neither (right_fault tool input.mat.rows input.rhs) (cap_fault input.mat.cols input.cap) second.1 in
     record { relations = second.0; rights = third.0 }
+
+-- a file of one row of m cells
+pub line_fits : (r c m : ℕ) (f : ShapeFault) → line_fault r c m f ≡ None → (r ≡ 1) × (c ≡ m)
+line_fits r c m f e =
+    elim (r == 1) as (λ b. (r == 1) ≡ b → (r ≡ 1) × (c ≡ m)) [
+      | false ↦ λ p. absurd (let g : line_fault r c m f ≡ Some f = rw p refl in cc)
+      | true ↦ λ p.
+          elim (c == m) as (λ b. (c == m) ≡ b → (r ≡ 1) × (c ≡ m)) [
+            | false ↦ λ q. absurd (let g : line_fault r c m f ≡ Some f = rw (p, q) refl in cc)
+            | true ↦ λ q. (eqb-true r 1 p, eqb-true c m q)
+          ] refl
+    ] refl
