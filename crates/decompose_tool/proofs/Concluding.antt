@@ -65,19 +65,16 @@ module _ (project : List ℕ) (s : Shaped) (sets : Sets) (sound : AreAllSound (p
         }
 
     module _ (grid : Matrix) (is : grid ≡ record { rows = walk.terms; cols = s.input.mat.cols + 1; cells = walk.cells.items }) where
-      n : ℕ
-      n = s.input.mat.cols
-
       count_is : grid.rows ≡ length w.terms
       count_is = ap (λ m. m.rows) is ∙ w.count
 
-      grid_is : grid ≡ grid_of (n + 1) (rows_of_terms n w.terms)
+      grid_is : grid ≡ grid_of (s.input.mat.cols + 1) (rows_of_terms s.input.mat.cols w.terms)
       grid_is =
-          is ∙ ap (λ k. record { rows = k; cols = n + 1; cells = walk.cells.items }) (w.count ∙ sym (length-map w.terms (row_of_term n)))
-          ∙ ap (λ cells. record { rows = length (rows_of_terms n w.terms); cols = n + 1; cells = cells }) w.cells
+          is ∙ ap (λ k. record { rows = k; cols = s.input.mat.cols + 1; cells = walk.cells.items }) (w.count ∙ sym (length-map w.terms (row_of_term s.input.mat.cols)))
+          ∙ ap (λ cells. record { rows = length (rows_of_terms s.input.mat.cols w.terms); cols = s.input.mat.cols + 1; cells = cells }) w.cells
 
-      text_is : text_of grid ≡ text_of_rows (n + 1) (rows_of_terms n w.terms)
-      text_is = ap text_of grid_is ∙ text_of-rows (n + 1) (rows_of_terms n w.terms) (each_long (n + 1) (rows_of_terms n w.terms) w.rows)
+      text_is : text_of grid ≡ text_of_rows (s.input.mat.cols + 1) (rows_of_terms s.input.mat.cols w.terms)
+      text_is = ap text_of grid_is ∙ text_of-rows (s.input.mat.cols + 1) (rows_of_terms s.input.mat.cols w.terms) (each_long (s.input.mat.cols + 1) (rows_of_terms s.input.mat.cols w.terms) w.rows)
 
       cut : (files : Files) (new : Option Files) (out out' : Option (List ℕ)) → Cut project grid (Some files) new out out' →
           IsCutShort (plan_of project s sets) (record { files_before = files; files_after = new; out_before = out; out_after = out' })
@@ -118,7 +115,7 @@ module _ (project : List ℕ) (s : Shaped) (sets : Sets) (sound : AreAllSound (p
 
   -- ---- the matrix of the terms
   flat_count : (n : ℕ) (rows : List (List ℤ)) → AreRows n rows → length (flat_map (λ r. r) rows) ≡ length rows * n
-  flat_count n [] h = refl
+  flat_count n [] h = omega arith
   flat_count n (r ∷ rows) h = omega (arith, ap length (flat_map-cons (λ (x : List ℤ). x) r rows), length-append r (flat_map (λ x. x) rows), (h.0).0, flat_count n rows h.1)
 
   flat_range : (n : ℕ) (rows : List (List ℤ)) → AreRows n rows → AllByRecursion InRange (flat_map (λ r. r) rows)

@@ -1,5 +1,5 @@
 -- How often a vector fits below another: entry by entry, and the least of all entries.
-use Rattle.std.proofs.Common.{◌≡◌, ℕ, zero, suc, ◌+◌, ◌*◌, ◌/◌, ◌<◌, ◌≤◌, List, [], ◌∷◌, length, get_or, drop, min, refl, ap, ap₂, sym, ◌∙◌, subst, arith, false}
+use Rattle.std.proofs.Common.{◌≡◌, ℕ, zero, suc, ◌+◌, ◌*◌, ◌/◌, ◌<◌, ◌≤◌, List, [], ◌∷◌, length, get_or, drop, min, refl, ap, ap₂, sym, ◌∙◌, subst, arith, false, ◌⊎◌, inl, inr}
 use Rattle.std.specs.Prelude.{ℤ, pos, negsuc, nat_abs, ◌*ℤ◌, ◌<ℤ◌, ◌≤ℤ◌, ◌↔◌}
 use Rattle.std.specs.List.{AllByRecursion}
 use Rattle.std.proofs.lemmas.Int.{ints}
@@ -15,7 +15,7 @@ use Rattle.decompose_tool.proofs.Multiples.{up_times, down_times}
 
 -- ---- one entry
 zero_within : (c : ℕ) (a r : ℤ) → a ≡ pos 0 → IsWithin (pos c *ℤ a) r
-zero_within c a r e = within_from_parts (pos c *ℤ a) r (omega (arith, up_times c a, ap up e), omega (arith, down_times c a, ap down e))
+zero_within c a r e = within_from_parts (pos c *ℤ a) r (omega (arith, up_times c a, ap (λ z. c * up z) e), omega (arith, down_times c a, ap (λ z. c * down z) e))
 
 pub always : (c : ℕ) (a r : ℤ) → a ≡ pos 0 → c ≤ largest → IsWithin (pos c *ℤ a) r ↔ (c ≤ largest)
 always c a r e l = (λ h. l, λ h. zero_within c a r e)

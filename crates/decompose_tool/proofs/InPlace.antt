@@ -28,7 +28,7 @@ length-set_here (y ∷ out) (suc j) x = ap suc (length-set_here out j x)
 
 drop_again : (xs : List ℤ) (j : ℕ) → drop (j + 1) xs ≡ drop 1 (drop j xs)
 drop_again xs zero = refl
-drop_again [] (suc j) = refl
+drop_again [] (suc j) = let e : suc j + 1 ≡ suc (j + 1) = omega arith in rw e refl
 drop_again (x ∷ xs) (suc j) = let e : suc j + 1 ≡ suc (j + 1) = omega arith in rw e (drop_again xs j)
 
 drop_once : (xs ys : List ℤ) (j : ℕ) → drop j xs ≡ drop j ys → drop (j + 1) xs ≡ drop (j + 1) ys
@@ -45,6 +45,9 @@ replaced_more old target out j x l is h = record {
   done = take_more_set out j x l ∙ ap₂ (λ (xs : List ℤ) (y : ℤ). xs ++ (y ∷ [])) h.done is ∙ sym (take_more target j (pos 0) (omega (arith, h.width)));
   left = drop-set out j x ∙ drop_once out old j h.left;
 }
+
+pub replaced_start : (old target : List ℤ) → length old ≡ length target → IsReplaced old target 0 old
+replaced_start old target e = record { width = e; done = refl; left = refl }
 
 pub replaced_all : (old target out : List ℤ) (j : ℕ) → length out ≤ j → IsReplaced old target j out → out ≡ target
 replaced_all old target out j l h = sym (take_all j out l) ∙ h.done ∙ take_all j target (omega (arith, h.width))
@@ -92,3 +95,7 @@ difference_small a r h = grind (arith, ints, h.same_sign, h.no_larger)
 
 pub negative_small : (x : ℤ) → InRange x → InRange (neg_ℤ x)
 negative_small x h = omega (arith, ints, h)
+
+pub range_negated : (v : List ℤ) → AllByRecursion InRange v → AllByRecursion InRange (negated v)
+range_negated [] h = tt
+range_negated (x ∷ v) h = (negative_small x h.0, range_negated v h.1)

@@ -10,3 +10,6 @@ pub mod Opposite
 pub mod Going
 pub mod Texts
 pub mod Concluding
+pub mod FullVectors
+pub mod RowWalks
+pub mod Plans

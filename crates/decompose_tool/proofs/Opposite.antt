@@ -39,8 +39,8 @@ full_negated U x e =
     let d = differences U.rows (pos 0) x in
     let s = x0_entry U.x0 (pos 0) in
     ap₂ (λ a b. negated x ++ (a ++ b)) (differences_negated U.rows x) (no_entry U.x0 e)
-    ∙ ap (λ a. negated x ++ a) (sym (map-append d s neg_ℤ))
-    ∙ sym (map-append x (d ++ s) neg_ℤ)
+    ∙ ap (λ a. negated x ++ a) (sym (map-append neg_ℤ d s))
+    ∙ sym (map-append neg_ℤ x (d ++ s))
 
 each_opposite : (rows : List (List ℤ)) (v : List ℤ) → AllByRecursion (λ r. dot r v ≡ pos 0) rows → AllByRecursion (λ r. dot r (negated v) ≡ pos 0) rows
 each_opposite [] v h = tt

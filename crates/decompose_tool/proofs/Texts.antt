@@ -1,7 +1,9 @@
 -- Texts that are put one after another: a refusal leaves a prefix of the whole.
-use Rattle.std.proofs.Common.{◌≡◌, ◌<◌, ◌+◌, ℕ, ℤ, min, List, [], ◌∷◌, ◌++◌, length, take, drop, get_or, Option, ap, sym, subst, ◌∙◌}
+use Rattle.std.specs.Prelude.{OnOk, OnErr}
+use Rattle.outside.specs.declared.ends.PutEnd.{PutEnd}
+use Rattle.std.proofs.Common.{Result, Ok, Err, le_refl, ◌≡◌, ◌<◌, ◌+◌, ℕ, ℤ, min, List, [], ◌∷◌, ◌++◌, length, take, drop, get_or, Option, ap, sym, subst, ◌∙◌}
 use Rattle.std.specs.Fmt.{signed_decimal}
-use Rattle.std.proofs.lemmas.List.{drop_more, map-append, take_more, take-append-drop}
+use Rattle.std.proofs.lemmas.List.{drop_more, map-append, take_more, take_all, take-append-drop}
 use Rattle.std.proofs.lemmas.List.Concat.{flat_map-append}
 use Rattle.std.proofs.Math.Seq.{take-append-add}
 use Rattle.std.specs.Io.KnownBytes.{append_known}
@@ -59,3 +61,8 @@ pub entries_more : (cells : List ℤ) (i : ℕ) (d : ℤ) (old mid new : Option 
 entries_more cells i d old mid new h one two =
     parts_both (entries (take i cells)) ((32 ∷ signed_decimal (get_or cells i d)) ∷ []) old mid new one two
     ∙ ap (λ l. append_known old (text_of_parts l)) (sym (ap entries (take_more cells i d h) ∙ map-append (λ z. 32 ∷ signed_decimal z) (take i cells) (get_or cells i d ∷ [])))
+
+-- a text that was put whole or in part
+pub said : (text : List ℕ) (old new : Option (List ℕ)) (r : Result (Unit {0}) PutEnd) → OnOk r (new ≡ append_known old text) → OnErr r (MayPut text old new) → MayPut text old new
+said text old new (Ok u) done cut = (length text, done ∙ ap (append_known old) (sym (take_all (length text) text (le_refl (length text)))))
+said text old new (Err end) done cut = cut

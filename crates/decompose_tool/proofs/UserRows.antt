@@ -1,7 +1,11 @@
 -- The user's rows by their places, and files without a fault.
-use Rattle.std.proofs.Common.{◌≡◌, ℕ, zero, suc, ◌+◌, ◌<◌, ◌≤◌, List, [], ◌∷◌, length, get_or, drop, refl, ap, sym, ◌∙◌, arith, Option, None, Some, true, false}
+use Rattle.std.proofs.Common.{◌≡◌, ℕ, zero, suc, ◌+◌, ◌*◌, ◌<◌, ◌≤◌, List, [], ◌∷◌, length, get_or, take, drop, refl, ap, ap₂, sym, ◌∙◌, subst, arith, length-take, Option, None, Some, true, false}
 use Rattle.std.proofs.lemmas.Bool.{eqb-true}
-use Rattle.std.specs.Prelude.{ℤ, pos, ◌==◌}
+use Rattle.std.specs.Prelude.{ℤ, pos, nat_abs, ◌*ℤ◌, ◌==◌, ◌↔◌}
+use Rattle.std.specs.List.{AllZip}
+use Rattle.std.proofs.lemmas.List.{drop_more}
+use Rattle.int_vector.specs.Vectors.{dot}
+use Rattle.lift_core.specs.Columns.{HasSign, IsCapped}
 use Rattle.std.specs.Option.{option_or}
 use Rattle.lift_core.specs.declared.Tool.{Tool}
 use Rattle.lift_core.proofs.Cells.{length-cut_rows}
@@ -12,7 +16,7 @@ use Rattle.system_shape.specs.Shape.{line_fault, relation_of, user_rows, user_sy
 use Rattle.system_shape.specs.declared.files.Input.{Input}
 use Rattle.system_shape.specs.declared.faults.ShapeFault.{ShapeFault}
 use Rattle.system_files.specs.Kernel.{rows_in}
-use Rattle.decompose_tool.specs.Inside.Steps.{no_row}
+use Rattle.decompose_tool.specs.Inside.Steps.{IsStanding, no_row}
 
 pub rows_at : (A : List (List ℤ)) (R : List Rel) (B : List ℤ) (m i : ℕ) → length A ≡ m → length R ≡ m → length B ≡ m → i < m →
     get_or (user_rows A R B) i no_row ≡ record { coefficients = get_or A i []; relation = relation_of (get_or R i Equal); right = get_or B i (pos 0) }
@@ -69,3 +73,54 @@ line_fits r c m f e =
             | true ↦ λ q. (eqb-true r 1 p, eqb-true c m q)
           ] refl
     ] refl
+
+-- how a row stands, from its three parts
+pub standing_is : (A : List (List ℤ)) (R : List Rel) (B : List ℤ) (m i : ℕ) (c : ℤ) (x : List ℤ) (k : Rel) (p q b : ℤ) (a : List ℤ) → length A ≡ m → length R ≡ m → length B ≡ m → i < m →
+    k ≡ get_or R i Equal → a ≡ get_or A i [] → p ≡ dot a x → b ≡ get_or B i (pos 0) → q ≡ b *ℤ c → nat_abs p ≤ 9223372036854775808 * 9223372036854775807 →
+    IsStanding (get_or (user_rows A R B) i no_row) c x (record { relation = k; product = p; right = q })
+standing_is A R B m i c x k p q b a e f g l is_k is_a is_p is_b is_q small =
+    subst (λ (r : UserRow). IsStanding r c x (record { relation = k; product = p; right = q })) (sym (rows_at A R B m i e f g l))
+    (record { relation = ap relation_of is_k; product = is_p ∙ ap (λ v. dot v x) is_a; right = is_q ∙ ap (λ z. z *ℤ c) is_b; small = small })
+
+-- ---- the columns
+first_entry : {X Y : Type 0} (P : X → Y → Type 0) (xs : List X) (ys : List Y) (n j : ℕ) (d : X) (e : Y) → j < n → n ≤ length xs → n ≡ length ys →
+    AllZip P (drop j (take n xs)) (drop j ys) ↔ (P (get_or xs j d) (get_or ys j e) × AllZip P (drop (j + 1) (take n xs)) (drop (j + 1) ys))
+first_entry P xs ys n j d e l m q =
+    let long : length (take n xs) ≡ n = omega (arith, length-take n xs) in
+    let first : drop j (take n xs) ≡ get_or (take n xs) j d ∷ drop (j + 1) (take n xs) = drop_more (take n xs) j d (omega arith) in
+    let second : drop j ys ≡ get_or ys j e ∷ drop (j + 1) ys = drop_more ys j e (omega arith) in
+    let at : get_or (take n xs) j d ≡ get_or xs j d = taken_at xs n j d l in
+    let both : AllZip P (drop j (take n xs)) (drop j ys) ≡ (P (get_or xs j d) (get_or ys j e) × AllZip P (drop (j + 1) (take n xs)) (drop (j + 1) ys)) =
+    ap₂ (AllZip P) first second ∙ ap (λ a. P a (get_or ys j e) × AllZip P (drop (j + 1) (take n xs)) (drop (j + 1) ys)) at in (
+      λ h. subst (λ T. T) both h,
+      λ h. subst (λ T. T) (sym both) h,
+    )
+  where
+    taken_at : {X : Type 0} (xs : List X) (n j : ℕ) (d : X) → j < n → get_or (take n xs) j d ≡ get_or xs j d
+    taken_at [] (suc n) j d l = refl
+    taken_at [] zero j d l = absurd (omega arith)
+    taken_at (x ∷ xs) zero j d l = absurd (omega arith)
+    taken_at (x ∷ xs) (suc n) zero d l = refl
+    taken_at (x ∷ xs) (suc n) (suc j) d l = taken_at xs n j d (omega arith)
+
+-- what is left of the columns decides
+abbrev pub ColumnsFit : List ℤ → List (Option ℕ) → List ℤ → ℕ → Type 0
+ColumnsFit signs caps x j = AllZip HasSign (drop j (take (length x) signs)) (drop j x) × AllZip IsCapped (drop j (take (length x) caps)) (drop j x)
+
+pub column_split : (signs : List ℤ) (caps : List (Option ℕ)) (x : List ℤ) (j : ℕ) → j < length x → length x ≤ length signs → length caps ≡ length signs →
+    ColumnsFit signs caps x j ↔ ((HasSign (get_or signs j (pos 0)) (get_or x j (pos 0)) × IsCapped (get_or caps j None) (get_or x j (pos 0))) × ColumnsFit signs caps x (j + 1))
+column_split signs caps x j l m e =
+    let a = first_entry HasSign signs x (length x) j (pos 0) (pos 0) l m refl in
+    let b = first_entry IsCapped caps x (length x) j None (pos 0) l (omega arith) refl in (
+      λ h. let p = a.0 h.0 in let q = b.0 h.1 in ((p.0, q.0), (p.1, q.1)),
+      λ h. (a.1 ((h.0).0, (h.1).0), b.1 ((h.0).1, (h.1).1)),
+    )
+
+pub no_columns_left : (signs : List ℤ) (caps : List (Option ℕ)) (x : List ℤ) → length x ≤ length signs → length caps ≡ length signs → ColumnsFit signs caps x (length x)
+no_columns_left signs caps x m e = (none HasSign signs x m, none IsCapped caps x (omega arith))
+  where
+    none : {X : Type 0} (P : X → ℤ → Type 0) (xs : List X) (ys : List ℤ) → length ys ≤ length xs → AllZip P (drop (length ys) (take (length ys) xs)) (drop (length ys) ys)
+    none P [] [] l = tt
+    none P (x ∷ xs) [] l = tt
+    none P [] (y ∷ ys) l = absurd (omega arith)
+    none P (x ∷ xs) (y ∷ ys) l = none P xs ys (omega arith)

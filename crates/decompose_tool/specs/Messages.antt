@@ -98,7 +98,10 @@ abbrev pub left_message : List ℤ → List ℕ
 left_message rest = line_of (codes "decompose") (codes "nothing fits" ∷ entries rest)
 
 -- nothing is said where all is done, and else the line or a prefix of it
+abbrev pub SaysEnding : Ending → Option (List ℕ) → Option (List ℕ) → Type 0
+SaysEnding (Done terms) old new = new ≡ old
+SaysEnding (Left rest) old new = MayPut (left_message rest) old new
+
 abbrev pub Says : List ℕ → Result Ending Stop → Option (List ℕ) → Option (List ℕ) → Type 0
-Says project (Ok (Done terms)) old new = new ≡ old
-Says project (Ok (Left rest)) old new = MayPut (left_message rest) old new
+Says project (Ok ending) old new = SaysEnding ending old new
 Says project (Err stop) old new = MayPut (message_of project stop) old new

@@ -1,5 +1,5 @@
 // Which rows are taken: solutions whose full vectors are in range.
-ghost use Rattle.std.specs.Prelude.{◌≡◌, ◌↔◌, ◌≤◌, ◌<◌, ◌⊎◌, ◌++◌, [], List, ℤ, pos, length, take, true, None, IsTrue, IfOk, IfSome, All};
+ghost use Rattle.std.specs.Prelude.{◌≡◌, ◌↔◌, ◌≤◌, ◌<◌, ◌≤ℤ◌, pos, nat_abs, length, take, IsTrue, IfOk, IfSome, MatchOption};
 ghost use Rattle.std.specs.List.{AllZip};
 ghost use Rattle.int_vector.specs.Range.{InRange};
 ghost use Rattle.int_vector.specs.Vectors.{norm, largest};
@@ -32,19 +32,11 @@ pub(crate) fn times(tool: Tool) -> i64
     }
 }
 
-// Whether x obeys the signs and the caps of the user's columns.
-fn obeys(system: &System, x: &[i64]) -> bool
-    requires { length x.now ≤ width system.now.equations }
-    ensures { IsTrue result ↔ (AllZip HasSign (take (length x.now) system.now.equations.signs) x.now
-        × AllZip IsCapped (take (length x.now) system.now.equations.caps) x.now) }
+// Whether the entry has the sign, and its absolute value is at most the cap, where there is one.
+fn fits_column(sign: i8, cap: Option<u64>, x: i64) -> bool
+    ensures { IsTrue result ↔ (HasSign sign x × IsCapped cap x) }
 {
-    for j in 0..x.len() {
-        let column = j as u32 + 1;
-        if !is_signed(system.sign(column), x[j]) || !is_capped(system.cap(column), x[j]) {
-            return false;
-        }
-    }
-    true
+    is_signed(sign, x) && is_capped(cap, x)
 }
 
 // Whether the entry has the sign.
@@ -66,6 +58,23 @@ fn is_capped(cap: Option<u64>, x: i64) -> bool
         Some(most) => x.unsigned_abs() <= most,
         None => true,
     }
+}
+
+// Whether x obeys the signs and the caps of the user's columns.
+fn obeys(system: &System, x: &[i64]) -> bool
+    requires few { length x.now ≤ 64 }
+    requires width { length x.now ≤ width system.now.equations }
+    ensures { IsTrue result ↔ (AllZip HasSign (take (length x.now) system.now.equations.signs) x.now
+        × AllZip IsCapped (take (length x.now) system.now.equations.caps) x.now) }
+{
+    system.keeps();
+    for j in 0..x.len() {
+        let column = j as u32 + 1;
+        if !fits_column(system.sign(column), system.cap(column), x[j]) {
+            return false;
+        }
+    }
+    true
 }
 
 // Whether each row stands at x as its relation says.
@@ -95,6 +104,18 @@ fn is_solution(shaped: &Shaped, times: i64, x: &[i64]) -> bool
     obeys(&shaped.system, x) && rows_stand(shaped, times, x)
 }
 
+// The number as an entry, where it is in range.
+fn narrow(difference: i128) -> Option<i64>
+    requires { pos 0 ≤ℤ difference }
+    ensures { MatchOption result (largest < nat_abs difference) (λ entry. entry ≡ difference) }
+{
+    if difference > i128::from(LARGEST) {
+        None
+    } else {
+        Some(difference as i64)
+    }
+}
+
 // Appends the differences of the inequalities. False where one is out of range.
 fn push_differences(
     shaped: &Shaped,
@@ -111,10 +132,10 @@ fn push_differences(
 {
     for i in 0..row_count(&shaped.input.mat) {
         if let Some(difference) = standing_at(shaped, times, x, i).difference() {
-            if difference > i128::from(LARGEST) {
+            let Some(entry) = narrow(difference) else {
                 return Ok(false);
-            }
-            full.push(difference as i64)?;
+            };
+            full.push(entry)?;
         }
     }
     Ok(true)

@@ -6,7 +6,7 @@ ghost use Rattle.std.specs.Io.KnownBytes.{append_known};
 ghost use Rattle.outside.specs.Causes.{HasCause};
 ghost use Rattle.outside.specs.Pieces.{MayPut, text_of_parts};
 ghost use Rattle.tool_frame.specs.Wordings.{words_in, with_number};
-ghost use Rattle.decompose_tool.specs.Messages.{input_limits, shape_source, input_source, bad_sign_text, shape_fault_text, input_text, place_of, row_fault_text, said_of, message_of, entries, left_message, Says};
+ghost use Rattle.decompose_tool.specs.Messages.{input_limits, shape_source, input_source, bad_sign_text, shape_fault_text, input_text, place_of, row_fault_text, said_of, message_of, entries, left_message, SaysEnding, Says};
 
 use crate::ends::{Ending, RowFault, Stop};
 use crate::reading::limits;
@@ -178,15 +178,54 @@ fn put_entries<E: Sink>(err: &mut E, v: &[i64]) -> Result<(), PutEnd>
     Ok(())
 }
 
+// Puts the front of the line that says what is left.
+fn put_front<E: Sink>(err: &mut E) -> Result<(), PutEnd>
+    ensures done { OnOk result (E.held err.new ≡ append_known (E.held err.old) (text_of_parts (codes "decompose" ∷ codes ": " ∷ codes "nothing fits" ∷ []))) }
+    ensures refused { OnErr result (MayPut (text_of_parts (codes "decompose" ∷ codes ": " ∷ codes "nothing fits" ∷ [])) (E.held err.old) (E.held err.new)) }
+    ensures cause { HasCause (E.faults err.old) (E.faults err.new) result }
+{
+    put_pieces(err, &[b"decompose", b": ", b"nothing fits"])
+}
+
+// Puts the end of a line.
+fn put_line_end<E: Sink>(err: &mut E) -> Result<(), PutEnd>
+    ensures done { OnOk result (E.held err.new ≡ append_known (E.held err.old) (text_of_parts (codes "\n" ∷ []))) }
+    ensures refused { OnErr result (MayPut (text_of_parts (codes "\n" ∷ [])) (E.held err.old) (E.held err.new)) }
+    ensures cause { HasCause (E.faults err.old) (E.faults err.new) result }
+{
+    put_pieces(err, &[b"\n"])
+}
+
+// Puts the entries, and ends the line.
+fn put_rest<E: Sink>(err: &mut E, rest: &[i64]) -> Result<(), PutEnd>
+    ensures done { OnOk result (E.held err.new ≡ append_known (E.held err.old) (text_of_parts (entries rest.now ++ codes "\n" ∷ []))) }
+    ensures refused { OnErr result (MayPut (text_of_parts (entries rest.now ++ codes "\n" ∷ [])) (E.held err.old) (E.held err.new)) }
+    ensures cause { HasCause (E.faults err.old) (E.faults err.new) result }
+{
+    put_entries(err, rest)?;
+    put_line_end(err)
+}
+
 // Puts the line that says what is left. After a refusal a prefix of it was put.
 fn put_left<E: Sink>(err: &mut E, rest: &[i64]) -> Result<(), PutEnd>
     ensures done { OnOk result (E.held err.new ≡ append_known (E.held err.old) (left_message rest.now)) }
     ensures refused { OnErr result (MayPut (left_message rest.now) (E.held err.old) (E.held err.new)) }
     ensures cause { HasCause (E.faults err.old) (E.faults err.new) result }
 {
-    put_pieces(err, &[b"decompose: nothing fits"])?;
-    put_entries(err, rest)?;
-    put_pieces(err, &[b"\n"])
+    put_front(err)?;
+    put_rest(err, rest)
+}
+
+// Says what is left, if anything.
+fn say_ending<E: Sink>(err: &mut E, ending: &Ending)
+    ensures { SaysEnding ending.now (E.held err.old) (E.held err.new) }
+{
+    match ending {
+        Ending::Done { .. } => {}
+        Ending::Left { rest } => {
+            let _ = put_left(err, rest.cells());
+        }
+    }
 }
 
 // Says what is left or why a run stopped, if so. A failure of standard error changes nothing else.
@@ -194,10 +233,7 @@ pub(crate) fn say<E: Sink>(err: &mut E, project: &str, outcome: &Result<Ending, 
     ensures { Says project.now outcome.now (E.held err.old) (E.held err.new) }
 {
     match outcome {
-        Ok(Ending::Done { .. }) => {}
-        Ok(Ending::Left { rest }) => {
-            let _ = put_left(err, rest.cells());
-        }
+        Ok(ending) => say_ending(err, ending),
         Err(stop) => {
             let _ = put_stop(err, project, *stop);
         }

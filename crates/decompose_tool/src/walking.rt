@@ -1,5 +1,5 @@
 // The walk: each candidate is taken as often as it fits below what is left.
-ghost use Rattle.std.specs.Prelude.{◌≡◌, ◌↔◌, ◌≤◌, ◌<◌, ◌+◌, ◌*◌, ◌*ℤ◌, ◌≤ℤ◌, ℕ, ℤ, [], pos, nat_abs, length, false, IfOk, IfSome, slice_index_or};
+ghost use Rattle.std.specs.Prelude.{◌≡◌, ◌↔◌, ◌≤◌, ◌<◌, ◌+◌, ◌*◌, ◌*ℤ◌, ◌-ℤ◌, ◌<ℤ◌, ◌⊎◌, ◌++◌, ◌∷◌, ℕ, [], pos, neg_ℤ, length, take, false, IsTrue, IfOk, IfSome, slice_index_or};
 ghost use Rattle.std.specs.List.{AllByRecursion};
 ghost use Rattle.int_vector.specs.Range.{InRange};
 ghost use Rattle.int_vector.specs.Vectors.{◌⊑◌, IsWithin, negated, largest};
@@ -39,6 +39,13 @@ pub(crate) fn is_zero(v: &[i64]) -> bool
     true
 }
 
+// Whether one number is above 0 and the other below.
+fn are_opposite(a: i64, r: i64) -> bool
+    ensures { IsTrue result ↔ (((pos 0 <ℤ a) × (r <ℤ pos 0)) ⊎ ((a <ℤ pos 0) × (pos 0 <ℤ r))) }
+{
+    (a > 0 && r < 0) || (a < 0 && r > 0)
+}
+
 // How often the entry fits within r, at most 2^63-1 times.
 fn entry_count(a: i64, r: i64) -> u64
     requires entry { InRange a }
@@ -48,7 +55,7 @@ fn entry_count(a: i64, r: i64) -> u64
 {
     if a == 0 {
         LARGEST
-    } else if (a < 0) != (r < 0) {
+    } else if are_opposite(a, r) {
         0
     } else {
         r.unsigned_abs() / a.unsigned_abs()
@@ -71,40 +78,67 @@ fn count(u: &[i64], rest: &[i64]) -> u64
     most
 }
 
+// What is left of an entry, where c times a is taken from it.
+fn less(r: i64, c: u64, a: i64) -> i64
+    requires range { InRange r }
+    requires count { c ≤ LARGEST }
+    requires within { IsWithin (pos c *ℤ a) r }
+    ensures { result ≡ r -ℤ (pos c *ℤ a) }
+{
+    r - c as i64 * a
+}
+
 // Takes the vector from the rest so many times.
-fn remove(rest: &mut [i64], c: i64, u: &[i64])
+fn remove(rest: &mut [i64], c: u64, u: &[i64])
     requires width { length u.now ≡ length rest.old }
-    requires count { pos 0 ≤ℤ c }
-    requires below { times (nat_abs c) u.now ⊑ rest.old }
+    requires count { c ≤ LARGEST }
+    requires below { times c u.now ⊑ rest.old }
     requires rest { AllByRecursion InRange rest.old }
-    ensures { rest.new ≡ subtract rest.old (times (nat_abs c) u.now) }
+    ensures { rest.new ≡ subtract rest.old (times c u.now) }
 {
     for j in 0..u.len() {
-        rest[j] -= c * u[j];
+        rest[j] = less(rest[j], c, u[j]);
     }
+}
+
+// Appends the line of a term: how often, and the first n entries of the vector.
+fn push_term(cells: &mut Vec<i64>, c: u64, n: usize, u: &[i64]) -> Result<(), AllocError>
+    requires count { c ≤ LARGEST }
+    requires columns { n ≤ length u.now }
+    ensures { IfOk result (λ _. cells.new.items ≡ (cells.old.items ++ pos c ∷ []) ++ take n u.now) }
+{
+    cells.push(c as i64)?;
+    cells.extend_from_slice(&u[..n])
 }
 
 // Takes a candidate as often as it fits.
 fn take(walk: &mut Walk, n: usize, u: &[i64]) -> Result<(), AllocError>
-    requires open { IsOpen (length u.now) walk.old }
+    requires state { IsOpen (length u.now) walk.old }
     requires columns { n ≤ length u.now }
     requires range { AllByRecursion InRange u.now }
     requires room { walk.old.terms < 4294967295 }
     ensures goes { IfOk result (λ _. GoesOn n (unless_zero u.now) walk.old walk.new) }
-    ensures open { IfOk result (λ _. IsOpen (length u.now) walk.new) }
+    ensures state { IfOk result (λ _. IsOpen (length u.now) walk.new) }
     ensures few { IfOk result (λ _. walk.new.terms ≤ walk.old.terms + 1) }
 {
     if is_zero(u) {
         return Ok(());
     }
-    let count = count(u, &walk.rest) as i64;
+    let count = count(u, &walk.rest);
     if count > 0 {
-        walk.cells.push(count)?;
-        walk.cells.extend_from_slice(&u[..n])?;
+        push_term(&mut walk.cells, count, n, u)?;
         walk.terms += 1;
         remove(&mut walk.rest, count, u);
     }
     Ok(())
+}
+
+// The negative of an entry.
+fn opposite(x: i64) -> i64
+    requires { InRange x }
+    ensures { result ≡ neg_ℤ x }
+{
+    -x
 }
 
 // Turns the vector into its negative.
@@ -113,7 +147,7 @@ fn negate(v: &mut [i64])
     ensures { v.new ≡ negated v.old }
 {
     for j in 0..v.len() {
-        v[j] = -v[j];
+        v[j] = opposite(v[j]);
     }
 }
 
@@ -125,12 +159,12 @@ fn take_negative(
     walk: &mut Walk,
 ) -> Result<(), AllocError>
     requires width { length full.old ≡ width system.now.equations }
-    requires open { IsOpen (length full.old) walk.old }
+    requires state { IsOpen (length full.old) walk.old }
     requires columns { n ≤ length full.old }
     requires range { AllByRecursion InRange full.old }
     requires room { walk.old.terms < 4294967295 }
     ensures goes { IfOk result (λ _. GoesOnWhere (Obeys system.now.equations (negated full.old)) n (unless_zero (negated full.old)) walk.old walk.new) }
-    ensures open { IfOk result (λ _. IsOpen (length full.old) walk.new) }
+    ensures state { IfOk result (λ _. IsOpen (length full.old) walk.new) }
     ensures few { IfOk result (λ _. walk.new.terms ≤ walk.old.terms + 1) }
 {
     negate(full);
@@ -153,10 +187,10 @@ fn take_row(
     requires times { IsTimes times }
     requires width { length x.now ≡ shaped.now.input.mat.cols }
     requires sound { IsSound (user_of shaped.now) times x.now }
-    requires open { IsOpen (width shaped.now.system.equations) walk.old }
+    requires state { IsOpen (width shaped.now.system.equations) walk.old }
     requires room { walk.old.terms < 4294967294 }
     ensures goes { IfOk result (λ _. GoesOverRow shaped.now.input.mat.cols shaped.now.system.tool (user_of shaped.now) times x.now walk.old walk.new) }
-    ensures open { IfOk result (λ _. IsOpen (width shaped.now.system.equations) walk.new) }
+    ensures state { IfOk result (λ _. IsOpen (width shaped.now.system.equations) walk.new) }
     ensures few { IfOk result (λ _. walk.new.terms ≤ walk.old.terms + 2) }
 {
     // Each row was checked, so its full vector is in range.
@@ -166,7 +200,8 @@ fn take_row(
     take(walk, x.len(), full)?;
     match shaped.system.tool() {
         Tool::Graver => take_negative(&shaped.system, x.len(), full, walk),
-        Tool::Hilbert | Tool::Zsolve => Ok(()),
+        Tool::Hilbert => Ok(()),
+        Tool::Zsolve => Ok(()),
     }
 }
 
@@ -183,10 +218,10 @@ fn take_rows(
     requires width { grid.now.cols ≡ shaped.now.input.mat.cols }
     requires few { grid.now.rows ≤ 2097152 }
     requires sound { AllByRecursion (IsSound (user_of shaped.now) times) (rows_in grid.now) }
-    requires open { IsOpen (width shaped.now.system.equations) walk.old }
+    requires state { IsOpen (width shaped.now.system.equations) walk.old }
     requires room { walk.old.terms ≤ 4194304 }
     ensures goes { IfOk result (λ _. GoesOverRows shaped.now.input.mat.cols shaped.now.system.tool (user_of shaped.now) times (rows_in grid.now) walk.old walk.new) }
-    ensures open { IfOk result (λ _. IsOpen (width shaped.now.system.equations) walk.new) }
+    ensures state { IfOk result (λ _. IsOpen (width shaped.now.system.equations) walk.new) }
     ensures few { IfOk result (λ _. walk.new.terms ≤ walk.old.terms + 4194304) }
 {
     let mut full = Vec::new(alloc);
@@ -207,10 +242,10 @@ fn take_second(
     requires width { IfSome second.now (λ grid. grid.cols ≡ shaped.now.input.mat.cols) }
     requires few { IfSome second.now (λ grid. grid.rows ≤ 2097152) }
     requires sound { AllByRecursion (AreSound (user_of shaped.now)) (second_part second.now) }
-    requires open { IsOpen (width shaped.now.system.equations) walk.old }
+    requires state { IsOpen (width shaped.now.system.equations) walk.old }
     requires room { walk.old.terms ≤ 4194304 }
     ensures goes { IfOk result (λ _. GoesOverParts shaped.now.input.mat.cols shaped.now.system.tool (user_of shaped.now) (second_part second.now) walk.old walk.new) }
-    ensures open { IfOk result (λ _. IsOpen (width shaped.now.system.equations) walk.new) }
+    ensures state { IfOk result (λ _. IsOpen (width shaped.now.system.equations) walk.new) }
 {
     match second {
         Some(grid) => take_rows(alloc, shaped, 0, grid, walk),
@@ -225,7 +260,7 @@ fn start(alloc: Global, shaped: &Shaped, point: &Grid) -> Result<Walk, AllocErro
     requires row { point.now.rows ≡ 1 }
     requires sound { AllByRecursion (IsSound (user_of shaped.now) (times_of shaped.now.system.tool)) (rows_in point.now) }
     ensures start { IfOk result (IsStart (full_vector (user_of shaped.now) (times_of shaped.now.system.tool) (slice_index_or (rows_in point.now) 0 []))) }
-    ensures open { IfOk result (IsOpen (width shaped.now.system.equations)) }
+    ensures state { IfOk result (IsOpen (width shaped.now.system.equations)) }
 {
     let mut rest = Vec::new(alloc);
     // The row was checked, so its full vector is in range.
