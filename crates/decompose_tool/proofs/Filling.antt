@@ -1,6 +1,6 @@
 -- The full vector, difference by difference, and its norm.
 use Rattle.std.proofs.Common.{◌≡◌, ℕ, zero, suc, ◌+◌, ◌<◌, ◌≤◌, List, [], ◌∷◌, ◌++◌, length, get_or, take, drop, refl, ap, sym, ◌∙◌, subst, arith, Option, None, Some, append_assoc, Bool, true, false}
-use Rattle.std.specs.Prelude.{ℤ, pos, nat_abs, ◌≤ℤ◌, ◌*ℤ◌, ◌-ℤ◌}
+use Rattle.std.specs.Prelude.{IfSome, ℤ, pos, nat_abs, ◌≤ℤ◌, ◌*ℤ◌, ◌-ℤ◌}
 use Rattle.std.specs.List.{AllByRecursion}
 use Rattle.std.proofs.lemmas.Int.{ints}
 use Rattle.std.proofs.lemmas.List.{drop_more}
@@ -55,25 +55,34 @@ next_difference rows i c x s o l h is =
     ap (λ rs. differences rs c x) (drop_more rows i no_row l) ∙ e ∙ is rest
 
 -- ---- the loop that appends them
-pub not_pushed : (rows : List UserRow) (i : ℕ) (c : ℤ) (x : List ℤ) (s : Standing) (items whole : List ℤ) → i < length rows → IsStanding (get_or rows i no_row) c x s →
-    ((rest : List ℤ) → difference_before (relation_of s.relation) s.product s.right rest ≡ in_front None rest) →
-    items ++ differences (drop i rows) c x ≡ whole → items ++ differences (drop (i + 1) rows) c x ≡ whole
-not_pushed rows i c x s items whole l h is done = ap (λ t. items ++ t) (sym (next_difference rows i c x s None l h is)) ∙ done
+append_none : (v : List ℤ) → v ++ [] ≡ v
+append_none [] = refl
+append_none (x ∷ v) = ap (λ w. x ∷ w) (append_none v)
 
-pub pushed : (rows : List UserRow) (i : ℕ) (c : ℤ) (x : List ℤ) (s : Standing) (d : ℤ) (items new whole : List ℤ) → i < length rows → IsStanding (get_or rows i no_row) c x s →
-    ((rest : List ℤ) → difference_before (relation_of s.relation) s.product s.right rest ≡ in_front (Some d) rest) → new ≡ items ++ d ∷ [] →
+in_front_of : (o : Option ℤ) (items rest : List ℤ) → items ++ in_front o rest ≡ (items ++ in_front o []) ++ rest
+in_front_of None items rest = ap (λ v. v ++ rest) (sym (append_none items))
+in_front_of (Some d) items rest = sym (append_assoc items (d ∷ []) rest)
+
+pub next_pushed : (rows : List UserRow) (i : ℕ) (c : ℤ) (x : List ℤ) (s : Standing) (o : Option ℤ) (items new whole : List ℤ) → i < length rows → IsStanding (get_or rows i no_row) c x s →
+    ((rest : List ℤ) → difference_before (relation_of s.relation) s.product s.right rest ≡ in_front o rest) → new ≡ items ++ in_front o [] →
     items ++ differences (drop i rows) c x ≡ whole → new ++ differences (drop (i + 1) rows) c x ≡ whole
-pushed rows i c x s d items new whole l h is e done =
-    ap (λ t. t ++ differences (drop (i + 1) rows) c x) e ∙ append_assoc items (d ∷ []) (differences (drop (i + 1) rows) c x)
-    ∙ ap (λ t. items ++ t) (sym (next_difference rows i c x s (Some d) l h is)) ∙ done
-
-pub too_wide : (rows : List UserRow) (i : ℕ) (c : ℤ) (x : List ℤ) (s : Standing) (d : ℤ) (items whole : List ℤ) → i < length rows → IsStanding (get_or rows i no_row) c x s →
-    ((rest : List ℤ) → difference_before (relation_of s.relation) s.product s.right rest ≡ in_front (Some d) rest) → largest < nat_abs d →
-    items ++ differences (drop i rows) c x ≡ whole → largest < norm whole
-too_wide rows i c x s d items whole l h is wide done =
+next_pushed rows i c x s o items new whole l h is e done =
     let rest = differences (drop (i + 1) rows) c x in
-    let e : norm (items ++ (d ∷ rest)) ≡ norm whole = ap norm (ap (λ t. items ++ t) (sym (next_difference rows i c x s (Some d) l h is)) ∙ done) in
-    omega (arith, e, norm-append items (d ∷ rest), wide)
+    ap (λ t. t ++ rest) e ∙ sym (in_front_of o items rest) ∙ ap (λ t. items ++ t) (sym (next_difference rows i c x s o l h is)) ∙ done
+
+pub too_wide : (rows : List UserRow) (i : ℕ) (c : ℤ) (x : List ℤ) (s : Standing) (o : Option ℤ) (items whole : List ℤ) → i < length rows → IsStanding (get_or rows i no_row) c x s →
+    ((rest : List ℤ) → difference_before (relation_of s.relation) s.product s.right rest ≡ in_front o rest) → largest < norm (items ++ in_front o []) →
+    items ++ differences (drop i rows) c x ≡ whole → largest < norm whole
+too_wide rows i c x s o items whole l h is wide done =
+    let rest = differences (drop (i + 1) rows) c x in
+    let e : norm ((items ++ in_front o []) ++ rest) ≡ norm whole = ap norm (sym (in_front_of o items rest) ∙ ap (λ t. items ++ t) (sym (next_difference rows i c x s o l h is)) ∙ done) in
+    omega (arith, e, norm-append (items ++ in_front o []) rest, wide)
+
+pub one_too_wide : (items : List ℤ) (d : ℤ) → largest < nat_abs d → largest < norm (items ++ d ∷ [])
+one_too_wide items d h = omega (arith, norm-append items (d ∷ []), h)
+
+pub none_pushed : (items : List ℤ) → items ≡ items ++ in_front None []
+none_pushed items = sym (append_none items)
 
 -- a difference is not negative where the relation holds
 by_relation : (k : Relation) (p q d : ℤ) → Stands k p q → difference_before k p q [] ≡ d ∷ [] → pos 0 ≤ℤ d
@@ -85,15 +94,16 @@ pub not_negative : (s : Standing) (d : ℤ) → Stands (relation_of s.relation) 
     ((rest : List ℤ) → difference_before (relation_of s.relation) s.product s.right rest ≡ in_front (Some d) rest) → pos 0 ≤ℤ d
 not_negative s d h is = by_relation (relation_of s.relation) s.product s.right d h (is [])
 
+pub not_negative_each : (s : Standing) (o : Option ℤ) → Stands (relation_of s.relation) s.product s.right →
+    ((rest : List ℤ) → difference_before (relation_of s.relation) s.product s.right rest ≡ in_front o rest) → IfSome o (λ d. pos 0 ≤ℤ d)
+not_negative_each s None h is = tt
+not_negative_each s (Some d) h is = not_negative s d h is
+
 no_rows : (rows : List UserRow) (i : ℕ) → length rows ≤ i → drop i rows ≡ []
 no_rows [] zero l = refl
 no_rows [] (suc i) l = refl
 no_rows (r ∷ rows) zero l = absurd (omega arith)
 no_rows (r ∷ rows) (suc i) l = no_rows rows i (omega arith)
-
-append_none : (v : List ℤ) → v ++ [] ≡ v
-append_none [] = refl
-append_none (x ∷ v) = ap (λ w. x ∷ w) (append_none v)
 
 pub all_pushed : (rows : List UserRow) (i : ℕ) (c : ℤ) (x items whole : List ℤ) → length rows ≤ i → items ++ differences (drop i rows) c x ≡ whole → items ≡ whole
 all_pushed rows i c x items whole l done =

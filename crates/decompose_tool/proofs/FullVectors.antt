@@ -34,3 +34,7 @@ no_x0 s e = ap has_x0 e
 
 pub zero_times : (s : Shaped) (c : ℤ) (x : List ℤ) → s.system.tool ≡ Graver → IsUserSolution (user_of s) c x → c ≡ pos 0
 zero_times s c x e h = subst (λ (b : Bool). IsX0 b c) (no_x0 s e) h.x0
+
+pub pushed_whole : (old entries new : List ℤ) (b : Bool) → b ≡ true → FillsRows old entries new b → new ≡ old ++ entries
+pushed_whole old entries new true e h = h
+pushed_whole old entries new false e h = absurd (cc)

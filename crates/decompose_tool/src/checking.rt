@@ -1,5 +1,5 @@
 // Which rows are taken: solutions whose full vectors are in range.
-ghost use Rattle.std.specs.Prelude.{◌≡◌, ◌↔◌, ◌≤◌, ◌<◌, ◌≤ℤ◌, pos, nat_abs, length, take, IsTrue, IfOk, IfSome, MatchOption};
+ghost use Rattle.std.specs.Prelude.{◌≡◌, ◌↔◌, ◌≤◌, ◌<◌, ◌≤ℤ◌, [], pos, nat_abs, length, take, IsTrue, IfOk, IfSome, MatchOption};
 ghost use Rattle.std.specs.List.{AllZip};
 ghost use Rattle.int_vector.specs.Range.{InRange};
 ghost use Rattle.int_vector.specs.Vectors.{norm, largest};
@@ -9,7 +9,7 @@ ghost use Rattle.system_shape.specs.Problem.{IsX0, differences, full_vector, Sol
 ghost use Rattle.system_files.specs.Kernel.{rows_in};
 ghost use Rattle.decompose_tool.specs.Rows.{times_of, second_part, all_parts};
 ghost use Rattle.decompose_tool.specs.Sets.{first_file};
-ghost use Rattle.decompose_tool.specs.Inside.Steps.{user_of, IsRead, IsTimes, RowsStand, Fills, FillsRows, Checks, ChecksPart, ChecksAll, AreInShape};
+ghost use Rattle.decompose_tool.specs.Inside.Steps.{user_of, IsRead, IsTimes, RowsStand, in_front, Fills, FillsRows, Checks, ChecksPart, ChecksAll, AreInShape};
 
 use crate::DecFile;
 use crate::ends::{RowFault, Stop};
@@ -116,6 +116,23 @@ fn narrow(difference: i128) -> Option<i64>
     }
 }
 
+// Appends a difference, where there is one. False where it is out of range.
+fn push_difference(difference: Option<i128>, full: &mut Vec<i64>) -> Result<bool, AllocError>
+    requires { IfSome difference (λ d. pos 0 ≤ℤ d) }
+    ensures { IfOk result (FillsRows full.old.items (in_front difference []) full.new.items) }
+{
+    let Some(difference) = difference else {
+        return Ok(true);
+    };
+    match narrow(difference) {
+        Some(entry) => {
+            full.push(entry)?;
+            Ok(true)
+        }
+        None => Ok(false),
+    }
+}
+
 // Appends the differences of the inequalities. False where one is out of range.
 fn push_differences(
     shaped: &Shaped,
@@ -131,11 +148,8 @@ fn push_differences(
     ensures { IfOk result (FillsRows full.old.items (differences (user_of shaped.now).rows times x.now) full.new.items) }
 {
     for i in 0..row_count(&shaped.input.mat) {
-        if let Some(difference) = standing_at(shaped, times, x, i).difference() {
-            let Some(entry) = narrow(difference) else {
-                return Ok(false);
-            };
-            full.push(entry)?;
+        if !push_difference(standing_at(shaped, times, x, i).difference(), full)? {
+            return Ok(false);
         }
     }
     Ok(true)

@@ -97,6 +97,20 @@ impl Standing {
     }
 }
 
+// How many rows there are.
+fn height(shaped: &Shaped) -> u32
+    ensures { result ≡ shaped.now.input.mat.rows }
+{
+    shaped.input.mat.rows
+}
+
+// How many of the user's columns there are.
+pub(crate) fn columns(shaped: &Shaped) -> u32
+    ensures { result ≡ shaped.now.input.mat.cols }
+{
+    shaped.input.mat.cols
+}
+
 // How row i, counted from 0, stands at x.
 pub(crate) fn standing_at(shaped: &Shaped, times: i64, x: &[i64], i: usize) -> Standing
     requires read { IsRead shaped.now }
@@ -108,7 +122,7 @@ pub(crate) fn standing_at(shaped: &Shaped, times: i64, x: &[i64], i: usize) -> S
     ensures stands { IsStanding (slice_index_or (user_of shaped.now).rows i no_row) times x.now result }
 {
     let input = &shaped.input;
-    let m = input.mat.rows;
+    let m = height(shaped);
     let right = right_side(shaped.system.tool(), m, &input.rhs, i);
     Standing {
         relation: relation(m, &input.rel, i),

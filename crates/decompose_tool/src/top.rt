@@ -20,6 +20,7 @@ use crate::ends::{Ending, Stop, code, end};
 use crate::messages::say;
 use crate::reading::{Sets, read_sets};
 use crate::requests::{project_or_nothing, read_request};
+use crate::rows::columns;
 use crate::walking::{Walk, is_zero, walk_over};
 use crate::{DecEnd, DecStatus};
 use itoa::Buffer;
@@ -92,6 +93,24 @@ fn lay_out(n: u32, walk: Walk) -> Grid
     }
 }
 
+// Writes the terms of a walk that left nothing, and tells how many they are.
+fn publish_walk<F: Folder, O: Sink>(
+    alloc: Global,
+    project: &str,
+    n: u32,
+    walk: Walk,
+    folder: &mut F,
+    out: &mut O,
+) -> Result<Ending, Stop>
+    requires { IsMatrix walk.terms (n + 1) walk.cells.items × (n ≤ 64) }
+    ensures words { result ≡ Err Stop.Usage → ⊥ }
+    ensures published { Published project.now (record { rows = walk.terms; cols = n + 1; cells = walk.cells.items }) (F.held folder.old) (F.held folder.new) (O.held out.old) (O.held out.new) result }
+    ensures cause { HasCauses (F.faults folder.old) (F.faults folder.new) (O.faults out.old) (O.faults out.new) result }
+{
+    let grid = lay_out(n, walk);
+    publish(alloc, project, &grid, folder, out)
+}
+
 // What the run of a system, a set and a point comes to.
 fn conclude<F: Folder, O: Sink>(
     alloc: Global,
@@ -118,7 +137,7 @@ fn conclude<F: Folder, O: Sink>(
             rest: IntRow::new(walk.rest),
         });
     }
-    publish(alloc, project, &lay_out(shaped.input.mat.cols, walk), folder, out)
+    publish_walk(alloc, project, columns(shaped), walk, folder, out)
 }
 
 // The system of the project.
@@ -163,8 +182,7 @@ fn finish<F: Folder, O: Sink>(
         Ok(shaped) => shaped,
         Err(stop) => return Err(stop),
     };
-    let n = shaped.input.mat.cols;
-    match read_sets(alloc, asked.tool, n, folder, asked.project) {
+    match read_sets(alloc, asked.tool, columns(&shaped), folder, asked.project) {
         Ok(sets) => conclude(alloc, asked.project, &shaped, &sets, folder, out),
         Err(stop) => Err(stop),
     }

@@ -13,7 +13,7 @@ use Rattle.decompose_tool.proofs.rows.standing_at.Goals as goal
 pub returns-clause-inside : goal.returns-clause-inside
 returns-clause-inside c =
     let mat = c.args.shaped.now.input.mat in
-    let same : c.input.inside.rows ≡ mat.rows = ap (λ m. m.rows) c.input.view_is in
+    let same : c.height-m.result ≡ mat.rows = c.height-m.ensures in
     let relations : length (given_relations mat.rows c.args.shaped.now.input.rel) ≡ mat.rows = subst (λ (k : ℕ). length (given_relations k c.args.shaped.now.input.rel) ≡ k) same c.relation.ensures.count in
     let rights : length (given_rights mat.rows c.args.shaped.now.input.rhs) ≡ mat.rows = subst (λ (k : ℕ). length (given_rights k c.args.shaped.now.input.rhs) ≡ k) same c.right_side-right.ensures.count in
     omega (arith, c.requires.inside, rows_count (rows_in mat) (given_relations mat.rows c.args.shaped.now.input.rel) (given_rights mat.rows c.args.shaped.now.input.rhs) mat.rows (length-cut_rows mat.rows mat.cols mat.cells) relations rights)
@@ -24,7 +24,7 @@ returns-clause-stands c =
     let rel = c.args.shaped.now.input.rel in
     let rhs = c.args.shaped.now.input.rhs in
     let i = c.args.i in
-    let same : c.input.inside.rows ≡ mat.rows = ap (λ m. m.rows) c.input.view_is in
+    let same : c.height-m.result ≡ mat.rows = c.height-m.ensures in
     let relations : length (given_relations mat.rows rel) ≡ mat.rows = subst (λ (k : ℕ). length (given_relations k rel) ≡ k) same c.relation.ensures.count in
     let rights : length (given_rights mat.rows rhs) ≡ mat.rows = subst (λ (k : ℕ). length (given_rights k rhs) ≡ k) same c.right_side-right.ensures.count in
     let relation : c.relation.result ≡ get_or (given_relations mat.rows rel) i Equal = subst (λ (k : ℕ). c.relation.result ≡ get_or (given_relations k rel) i Equal) same c.relation.ensures.relation in

@@ -1,5 +1,5 @@
 -- The point's full vector is as long as the system is wide, and in range.
-use Rattle.std.proofs.Common.{◌≡◌, ◌∙◌, ap, sym, subst, arith, get_or, [], rules, SFits, w64, to_z-of_z}
+use Rattle.std.proofs.Common.{◌≡◌, ◌∙◌, ap, sym, subst, arith, length, get_or, [], rules, SFits, w64, to_z-of_z}
 use Rattle.std.specs.Prelude.{List, ℤ}
 use Rattle.std.specs.List.{AllByRecursion}
 use Rattle.int_vector.specs.Range.{InRange}
