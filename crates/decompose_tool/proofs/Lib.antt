@@ -1,3 +1,15 @@
 pub mod Multiples
-pub mod Walking
+pub mod Walks
 pub mod Solving
+pub mod Counting
+pub mod InPlace
+pub mod UserRows
+pub mod Filling
+pub mod Candidates
+pub mod Opposite
+pub mod Going
+pub mod Texts
+pub mod Concluding
+pub mod FullVectors
+pub mod RowWalks
+pub mod Plans

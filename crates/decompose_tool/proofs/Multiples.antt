@@ -21,10 +21,10 @@ times_once [] = refl
 times_once (x ∷ u) = ap₂ (λ a w. a ∷ w) (once x) (times_once u)
 
 -- the parts of a multiple
-up_times : (c : ℕ) (a : ℤ) → up (pos c *ℤ a) ≡ c * up a
+pub up_times : (c : ℕ) (a : ℤ) → up (pos c *ℤ a) ≡ c * up a
 up_times c a = omega (arith, (product_is (pos c) a).0)
 
-down_times : (c : ℕ) (a : ℤ) → down (pos c *ℤ a) ≡ c * down a
+pub down_times : (c : ℕ) (a : ℤ) → down (pos c *ℤ a) ≡ c * down a
 down_times c a = omega (arith, (product_is (pos c) a).1)
 
 first_entry : (c : ℕ) (a r : ℤ) → 1 ≤ c → IsWithin (pos c *ℤ a) r → IsWithin a r

@@ -17,7 +17,7 @@ use Rattle.system_shape.proofs.Law.{full_solves, is_full}
 use Rattle.system_shape.proofs.Solutions.{one_solution}
 use Rattle.decompose_tool.specs.Walks.{times, Term, IsWalk}
 use Rattle.decompose_tool.proofs.Multiples.{length-times, first_below, rest_below, subtract-times, nothing_taken}
-use Rattle.decompose_tool.proofs.Walking.{nothing_fits}
+use Rattle.decompose_tool.proofs.Walks.{nothing_fits}
 
 module _ (P : List ℤ → Type 0) (closed : IsClosed P) where
   without : (c : ℕ) (u rest : List ℤ) → P u → P rest → times c u ⊑ rest → P (subtract rest (times c u))

@@ -23,6 +23,10 @@ TermsDiffer = (us : List (List ℤ)) (v : List ℤ) (terms : List Term) (left : 
 abbrev pub NothingFits : Type 0
 NothingFits = (us : List (List ℤ)) (v : List ℤ) (terms : List Term) (left : List ℤ) → IsWalk us v terms left → AllByRecursion (λ u. u ⊑ left → ⊥) us
 
+-- a walk from a vector has one list of terms, and leaves one vector
+abbrev pub WalksAreOne : Type 0
+WalksAreOne = (us : List (List ℤ)) (v left left' : List ℤ) (terms terms' : List Term) → IsWalk us v terms left → IsWalk us v terms' left' → (terms ≡ terms') × (left ≡ left')
+
 -- where the candidates are full vectors of the user's solutions, and those of all minimal ones are among them, the walk from the full vector of a solution leaves nothing
 abbrev pub NothingIsLeft : Type 0
 NothingIsLeft =

@@ -1,9 +1,10 @@
 -- What is true of each walk, by recursion on the candidates.
-use Rattle.std.proofs.Common.{◌≡◌, ℕ, suc, ◌≤◌, List, [], ◌∷◌, length, replicate, refl, ap, sym, ◌∙◌, subst, arith, inl, inr}
-use Rattle.std.specs.Prelude.{ℤ, pos}
+use Rattle.std.proofs.Common.{◌≡◌, ℕ, suc, ◌≤◌, List, [], ◌∷◌, ◌++◌, length, replicate, refl, ap, ap₂, sym, ◌∙◌, subst, subst₂, arith, inl, inr}
+use Rattle.std.specs.Prelude.{ℤ, pos, ◌+ℤ◌}
+use Rattle.std.proofs.lemmas.Int.{ints}
 use Rattle.std.specs.List.{AllByRecursion}
 use Rattle.int_vector.specs.Operations.{add, subtract, total}
-use Rattle.int_vector.specs.Vectors.{◌⊑◌}
+use Rattle.int_vector.specs.Vectors.{◌⊑◌, IsZero}
 use Rattle.int_vector.proofs.Vectors.{below_refl, below_trans, length-below, difference_below, add-subtract}
 use Rattle.lift_core.proofs.Totals.{add-assoc, length-zeros}
 use Rattle.decompose_tool.specs.Walks.{times, IsMost, Term, IsWalk, multiples, vectors, AreDifferent}
@@ -83,3 +84,44 @@ adds_up n (u ∷ us) rest terms left e (inr h) =
 
 pub walks_add_up : (us : List (List ℤ)) (v : List ℤ) (terms : List Term) (left : List ℤ) → IsWalk us v terms left → add (total (length v) (multiples terms)) left ≡ v
 walks_add_up us v terms left h = adds_up (length v) us v terms left refl h
+
+plus_zero : (x : ℤ) → x +ℤ pos 0 ≡ x
+plus_zero x = omega (arith, ints)
+
+-- ---- one walk after another
+pub walk_append : (us vs : List (List ℤ)) (rest mid left : List ℤ) (terms more : List Term) → IsWalk us rest terms mid → IsWalk vs mid more left → IsWalk (us ++ vs) rest (terms ++ more) left
+walk_append [] vs rest mid left terms more h k =
+    subst₂ (λ (ts : List Term) (r : List ℤ). IsWalk vs r (ts ++ more) left) (sym h.0) (sym h.1) k
+walk_append (u ∷ us) vs rest mid left terms more (inl h) k = inl (h.0, walk_append us vs rest mid left terms more h.1 k)
+walk_append (u ∷ us) vs rest mid left terms more (inr h) k =
+    inr (h.0, h.1 ++ more, h.2, h.3, ap (λ (ts : List Term). ts ++ more) h.4, walk_append us vs (subtract rest (times h.0 u)) mid left h.1 more h.5 k)
+
+-- ---- one walk alone
+same_most : (u rest : List ℤ) (c d : ℕ) → IsMost u rest c → IsMost u rest d → c ≡ d
+same_most u rest c d m k = let l : c ≤ d = k.most c m.below in let n : d ≤ c = m.most d k.below in omega arith
+
+not_both : (u rest : List ℤ) (c : ℕ) → IsMost u rest 0 → 1 ≤ c → IsMost u rest c → ⊥
+not_both u rest c m l k = let e : 0 ≡ c = same_most u rest 0 c m k in omega arith
+
+pub one_walk : (us : List (List ℤ)) (v left left' : List ℤ) (terms terms' : List Term) → IsWalk us v terms left → IsWalk us v terms' left' → (terms ≡ terms') × (left ≡ left')
+one_walk [] v left left' terms terms' h k = (h.0 ∙ sym k.0, sym h.1 ∙ k.1)
+one_walk (u ∷ us) v left left' terms terms' (inl h) (inl k) = one_walk us v left left' terms terms' h.1 k.1
+one_walk (u ∷ us) v left left' terms terms' (inl h) (inr k) = absurd (not_both u v k.0 h.0 k.2 k.3)
+one_walk (u ∷ us) v left left' terms terms' (inr h) (inl k) = absurd (not_both u v h.0 k.0 h.2 h.3)
+one_walk (u ∷ us) v left left' terms terms' (inr h) (inr k) =
+    let e : h.0 ≡ k.0 = same_most u v h.0 k.0 h.3 k.3 in
+    let moved : IsWalk us (subtract v (times h.0 u)) k.1 left' = subst (λ (c : ℕ). IsWalk us (subtract v (times c u)) k.1 left') (sym e) k.5 in
+    let o = one_walk us (subtract v (times h.0 u)) left left' h.1 k.1 h.5 moved in
+    (h.4 ∙ ap₂ (λ (c : ℕ) (ts : List Term). record { count = c; vector = u } ∷ ts) e o.0 ∙ sym k.4, o.1)
+
+-- where nothing is left, the terms add up to where the walk began
+zero_right : (u v : List ℤ) → length u ≡ length v → IsZero v → add u v ≡ u
+zero_right [] [] e z = refl
+zero_right (x ∷ u) (y ∷ v) e z = ap₂ (λ a w. a ∷ w) (ap (λ b. x +ℤ b) z.0 ∙ plus_zero x) (zero_right u v (omega arith) z.1)
+zero_right [] (y ∷ v) e z = absurd (omega arith)
+zero_right (x ∷ u) [] e z = absurd (omega arith)
+
+pub whole_sum : (us : List (List ℤ)) (v : List ℤ) (terms : List Term) (left : List ℤ) → IsWalk us v terms left → IsZero left → total (length v) (multiples terms) ≡ v
+whole_sum us v terms left h z =
+    sym (zero_right (total (length v) (multiples terms)) left (long (length v) us v terms left refl h ∙ sym (length-below left v (left_below us v terms left h))) z)
+    ∙ walks_add_up us v terms left h
