@@ -1,4 +1,5 @@
-//! Stages that are built anew from their rows, beside those that they are of, and the number of pairs up to a norm.
+//! Stages that are built anew from their rows, beside those that they are of, and the number of
+//! pairs up to a norm.
 
 ghost use Rattle.std.specs.Prelude.{◌≡◌, ◌+◌, ◌<◌, ◌≤◌, length, nat_abs, IfOk, IfSome, All};
 ghost use Rattle.lift_core.specs.ToolSystems.{width};
@@ -125,7 +126,8 @@ fn close_alike(alloc: Global, one: &mut Stage, other: &mut Stage) -> Result<bool
         && one.len() == other.len())
 }
 
-// After so many norms, how many norms more a rebuilt stage closes as the first one does, and its rows and used pairs then.
+// After so many norms, how many norms more a rebuilt stage closes as the first one does, and its
+// rows and used pairs then.
 fn goes_on(alloc: Global, norms: u32) -> Result<Option<(u32, u32, u64)>, AllocError> {
     let Some(mut stage) = after(alloc, [3, 5, -7], norms)? else {
         return Ok(None);
@@ -141,7 +143,8 @@ fn goes_on(alloc: Global, norms: u32) -> Result<Option<(u32, u32, u64)>, AllocEr
     Ok(None)
 }
 
-// That the stage closes 13 norms, lists 48 rows and uses 256 pairs was counted by a program in another language.
+// That the stage closes 13 norms, lists 48 rows and uses 256 pairs was counted by a program in
+// another language.
 #[test]
 fn rebuilt_stages_go_on_alike(rt: HostRuntime) -> Result<(), Fail> {
     for (norms, more) in [(0, 13), (3, 10), (12, 1), (13, 0)] {
@@ -150,7 +153,7 @@ fn rebuilt_stages_go_on_alike(rt: HostRuntime) -> Result<(), Fail> {
     Ok(())
 }
 
-// Of the rows with a last entry below 0, the number of those whose norm and n are together at most `most`.
+// How many rows with a last entry below 0 have with n a norm of at most `most`.
 fn seconds(rows: &Pool, n: u64, most: u64) -> u64
     requires { rows.now.width ≡ 4 }
 {

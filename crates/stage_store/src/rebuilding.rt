@@ -1,4 +1,5 @@
-//! What a stage keeps beside its listed rows, made anew from them: the tree that holds them, and their classes.
+//! What a stage keeps beside its listed rows, made anew from them: the tree that holds them, and
+//! their classes.
 
 ghost use Rattle.std.specs.Prelude.{◌≡◌, ◌<◌, ◌≤◌, ◌^◌, ℕ, length, take, drop, IfOk};
 ghost use Rattle.std.specs.List.{AllByRecursion};
@@ -26,7 +27,7 @@ pub fn tree_of(alloc: Global, listed: &Pool) -> Result<Tree, AllocError>
     Ok(tree)
 }
 
-/// The classes of the rows whose last entry is above 0, or of those with one below 0: one for each norm that has any.
+/// The classes of the rows with a last entry above 0, or below it: one for each norm that has any.
 pub fn classes_of(alloc: Global, listed: &Pool, positive: bool) -> Result<Vec<Class>, AllocError>
     requires width { 0 < listed.now.width }
     requires ascending { IsStrictlySortedBy norm_cmp listed.now.rows }
@@ -48,7 +49,7 @@ pub fn classes_of(alloc: Global, listed: &Pool, positive: bool) -> Result<Vec<Cl
     Ok(classes)
 }
 
-/// The class of the rows with a sign among those from one place up to another, which have this norm.
+/// The class of the rows with a sign, among the rows of a norm from one place up to another.
 fn class_within(
     alloc: Global,
     listed: &Pool,

@@ -206,8 +206,8 @@ impl Stage {
         }))
     }
 
-    /// The stage of a system with these lists, of a number and at a norm, and with so many used pairs. That the lists are
-    /// the defined ones is not asked.
+    /// The stage of a system with this number, norm, used pairs and lists. That they are the defined
+    /// ones is not asked.
     pub fn rebuild(
         alloc: Global,
         system: System,
