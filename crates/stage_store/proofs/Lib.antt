@@ -18,7 +18,10 @@ pub mod UnitVectors
 pub mod Kept
 pub mod Starting
 pub mod Ordered
-pub mod Gains
-pub mod Skipped
 pub mod NumberedSums
 pub mod Sorting
+pub mod Sifting
+pub mod Tables
+pub mod Opening
+pub mod Reaches
+pub mod MoreRows

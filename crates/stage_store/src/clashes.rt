@@ -3,12 +3,10 @@
 ghost use Rattle.std.specs.Prelude.{◌≡◌, ◌↔◌, ◌+◌, ◌*◌, ◌/◌, ◌%◌, ◌<◌, ◌≤◌, ◌^◌, ℕ, ℤ, List, length, IsTrue, IfOk};
 ghost use Rattle.std.specs.Int.{bit_at};
 ghost use Rattle.std.specs.List.{AllByRecursion};
-ghost use Rattle.lift_core.specs.ToolSystems.{width};
 ghost use Rattle.stage_store.specs.Classes.{rows_at};
 ghost use Rattle.stage_store.specs.Signs.{IsSigned, Opposes, entry_at, Marks, MarksRow};
 
-use crate::stage::Stage;
-use row_pool::RowId;
+use row_pool::{Pool, RowId};
 use std::alloc::{AllocError, Global};
 
 /// Lines of bits that tell the signs of the entries of a class of rows. A line is that of a column, and has a bit for each
@@ -26,18 +24,24 @@ impl Clashes {
     ghost use Rattle.stage_store.specs.Clashes.{HasLines, TellsOf, TellClashes};
 
     /// The lines for the rows at the places, in that order.
-    pub fn of(alloc: Global, stage: &Stage, ids: &[u32]) -> Result<Clashes, AllocError>
-        requires places { AllByRecursion (λ i. i < length stage.now.listed) ids.now }
+    pub fn of(
+        alloc: Global,
+        listed: &Pool,
+        width: usize,
+        ids: &[u32],
+    ) -> Result<Clashes, AllocError>
+        requires width { listed.now.width ≡ width + 1 }
+        requires narrow { width ≤ 130 }
+        requires places { AllByRecursion (λ i. i < length listed.now.rows) ids.now }
         requires few { length ids.now ≤ 2 ^ 21 }
-        ensures lines { IfOk result (λ c. HasLines (width stage.now.system.equations) c) }
-        ensures tells { IfOk result (λ c. TellsOf (width stage.now.system.equations) (rows_at stage.now.listed ids.now) c) }
+        ensures lines { IfOk result (λ c. HasLines width c) }
+        ensures tells { IfOk result (λ c. TellsOf width (rows_at listed.now.rows ids.now) c) }
     {
-        let width = stage.system().width() as usize;
         let words = (ids.len() + 63) / 64;
         let mut above: Vec<u64> = vec![in alloc; 0; width * words]?;
         let mut under: Vec<u64> = vec![in alloc; 0; width * words]?;
         for q in 0..ids.len() {
-            let row = &stage.row(RowId(ids[q]))[..width];
+            let row = &listed.row(RowId(ids[q]))[..width];
             mark_row(&mut above, true, words, q, row);
             mark_row(&mut under, false, words, q, row);
         }

@@ -7,6 +7,6 @@ abbrev pub invariant-loop-q : goal.invariant-loop-q
 invariant-loop-q l = record {
   above_length : length l.above.items ≡ l.width * l.words;
   under_length : length l.under.items ≡ l.width * l.words;
-  above_tell : TellSigns true l.words l.width (rows_at l.stage.listed l.ids) l.above.items;
-  under_tell : TellSigns false l.words l.width (rows_at l.stage.listed l.ids) l.under.items;
+  above_tell : TellSigns true l.words l.width (rows_at l.listed.rows l.ids) l.above.items;
+  under_tell : TellSigns false l.words l.width (rows_at l.listed.rows l.ids) l.under.items;
 }
