@@ -7,9 +7,13 @@ use Rattle.lift_core.specs.ToolSystems.{width}
 use Rattle.lift_core.specs.Stages.{stage_norm, has_positive_last, has_negative_last}
 use Rattle.int_vector.specs.Vectors.{largest}
 use Rattle.stage_store.specs.Classes.{row_at, rows_at, places}
-use Rattle.stage_store.specs.Clashes.{HasLines, TellsOf}
-use Rattle.stage_store.specs.Found.{IsSumOf, IsReduced}
-use Rattle.stage_store.specs.declared.clashes.Clashes.{Clashes}
+use Rattle.std.specs.Int.{bit_at}
+use Rattle.stage_store.specs.Lines.{Tell, HasBit}
+use Rattle.stage_store.specs.Levels.{BarsLine, ReachesLine, AreTrue}
+use Rattle.stage_store.specs.Found.{IsSumOf}
+use Rattle.stage_store.specs.Reaches.{AreReaches}
+use Rattle.stage_store.specs.declared.sieve.Group.{Group}
+use Rattle.stage_store.specs.declared.sieve.Room.{Room}
 use Rattle.stage_store.specs.declared.sieve.KeptPair.{KeptPair}
 use Rattle.stage_store.specs.declared.sieve.Table.{Table}
 use Rattle.stage_store.specs.declared.sieve.Sieve.{Sieve}
@@ -45,30 +49,6 @@ IsSiftedBy positive S listed shelves i j =
 abbrev pub AreSiftedBy : Bool → LinearSystem → List (List ℤ) → List (List KeptPair) → ℕ → List ℕ → Type 0
 AreSiftedBy positive S listed shelves i js = (k : ℕ) → k < length js → IsSiftedBy positive S listed shelves i (slice_index_or js k 0)
 
--- ---- reaches
--- the entry with an absolute value, and the sign against another's
-abbrev pub entry_against : ℤ → ℕ → ℤ
-entry_against x r = cond (int_lt (pos 0) x) (neg_ℤ (pos r)) (pos r)
-
--- a row with that in place of its last entry
-abbrev pub with_reach : List ℤ → ℕ → List ℤ
-with_reach [] r = []
-with_reach (x ∷ []) r = entry_against x r ∷ []
-with_reach (x ∷ y ∷ z) r = x ∷ with_reach (y ∷ z) r
-
--- a reach of the row is known, and a listed row is below it with the reach; or none is known
-abbrev pub IsReachOr : List (List ℤ) → List ℤ → ℕ → Type 0
-IsReachOr listed row r = 0 < r → IsReduced listed (with_reach row r)
-
-abbrev pub AreReaches : List (List ℤ) → List ℕ → Type 0
-AreReaches listed reaches = (k : ℕ) → k < length reaches → IsReachOr listed (row_at listed k) (slice_index_or reaches k 0)
-
--- x is above 0 and y below it, and one is larger than the other by its reach or more
-pub record AreFarApart (x y : ℤ) (reach other : ℕ) : Type 0 where
-  pub above : pos 0 <ℤ x
-  pub under : y <ℤ pos 0
-  pub far : ((0 < reach) × (nat_abs x + reach ≤ nat_abs y)) ⊎ ((0 < other) × (nat_abs y + other ≤ nat_abs x))
-
 -- the norms are in range
 abbrev pub AreNormed : List (List ℤ) → Type 0
 AreNormed listed = AllByRecursion (λ z. stage_norm z ≤ largest) listed
@@ -77,31 +57,38 @@ AreNormed listed = AllByRecursion (λ z. stage_norm z ≤ largest) listed
 abbrev pub AreWide : ℕ → List (List ℤ) → Type 0
 AreWide n listed = AllByRecursion (λ z. length z ≡ n) listed
 
+-- P is true of the lines at the places
+abbrev pub AreReads : (ℕ → Type 0) → ℕ → List ℕ → Type 0
+AreReads P n places = (a : ℕ) → a < length places → (slice_index_or places a 0 < n) × P (slice_index_or places a 0)
+
 -- ---- the tables
--- each of the lines tells of its 64 of the rows at the places
-abbrev pub AreLines : ℕ → List (List ℤ) → List ℕ → List Clashes → Type 0
-AreLines width listed ids lines =
-    (a : ℕ) (d : Clashes) → a < length lines
-    → HasLines width (slice_index_or lines a d) × TellsOf width (rows_at listed (take 64 (drop (64 * a) ids))) (slice_index_or lines a d)
+-- a group of lines tells of its 64 of the rows at the places
+pub record IsGroup (S : LinearSystem) (listed : List (List ℤ)) (ids : List ℕ) (a : ℕ) (g : Group) : Type 0 where
+  pub bars : Tell (BarsLine S listed) listed ids a g.bars
+  pub reached : Tell ReachesLine listed ids a g.reached
 
--- places of listed rows, with lines over each 64 of them
-pub record IsFullTable (S : LinearSystem) (listed : List (List ℤ)) (t : Table) : Type 0 where
-  pub inside : AllByRecursion (λ i. i < length listed) t.ids.items
-  pub few : length t.ids.items ≤ 2 ^ 21
-  pub groups : length t.lines.items ≡ (length t.ids.items + 63) / 64
-  pub lines : AreLines (width S) listed t.ids.items t.lines.items
+abbrev pub AreGroups : LinearSystem → List (List ℤ) → List ℕ → List Group → Type 0
+AreGroups S listed ids groups = (a : ℕ) (d : Group) → a < length groups → IsGroup S listed ids a (slice_index_or groups a d)
 
--- the pairs of the rows from place `from` on and below place `to` with the rows of the tables are kept, or have no
--- irreducible sum
-pub record AreSiftedFrom (S : LinearSystem) (listed : List (List ℤ)) (shelves : List (List KeptPair)) (from to : ℕ) (plus minus : List ℕ) : Type 0 where
-  pub above : (i : ℕ) → from ≤ i → i < to → has_positive_last (row_at listed i) ≡ true → AreSiftedBy true S listed shelves i minus
-  pub under : (i : ℕ) → from ≤ i → i < to → has_negative_last (row_at listed i) ≡ true → AreSiftedBy false S listed shelves i plus
+-- each has so many lines of each kind
+pub record IsSized (n : ℕ) (g : Group) : Type 0 where
+  pub bars_count : length g.bars ≡ n
+  pub reached_count : length g.reached ≡ n
+
+abbrev pub AreSized : ℕ → List Group → Type 0
+AreSized n groups = (a : ℕ) (d : Group) → a < length groups → IsSized n (slice_index_or groups a d)
+
+-- a row that has a bit has one in a line that is read
+abbrev pub IsDead : Group → List ℕ → List ℕ → ℕ → Type 0
+IsDead g bar_reads reach_reads bits = (r : ℕ) → r < 64 → bit_at bits r ≡ 1
+    → ((a : ℕ) × (a < length bar_reads) × HasBit g.bars (slice_index_or bar_reads a 0) r) ⊎ ((a : ℕ) × (a < length reach_reads) × HasBit g.reached (slice_index_or reach_reads a 0) r)
 
 -- the places of the first n rows that pass the test, with lines over each 64 of them
 pub record IsTable (S : LinearSystem) (listed : List (List ℤ)) (test : List ℤ → Bool) (n : ℕ) (t : Table) : Type 0 where
   pub ids_are : t.ids.items ≡ places test 0 (take n listed)
-  pub groups : length t.lines.items ≡ (length t.ids.items + 63) / 64
-  pub lines : AreLines (width S) listed t.ids.items t.lines.items
+  pub count : length t.groups.items ≡ (length t.ids.items + 63) / 64
+  pub sized : AreSized (16 * width S) t.groups.items
+  pub groups : AreGroups S listed t.ids.items t.groups.items
 
 -- each pair of the first n rows of a norm above d is kept, or has no irreducible sum
 abbrev pub AreSifted : LinearSystem → List (List ℤ) → ℕ → ℕ → List (List KeptPair) → Type 0
@@ -109,21 +96,42 @@ AreSifted S listed d n shelves =
     (i j : ℕ) → i < n → j < n → has_positive_last (row_at listed i) ≡ true → has_negative_last (row_at listed j) ≡ true
     → d < stage_norm (row_at listed i) + stage_norm (row_at listed j) → IsSiftedBy true S listed shelves i j
 
+-- the first n rows are sifted
+pub record IsSieveTo (S : LinearSystem) (listed : List (List ℤ)) (d n : ℕ) (v : Sieve) : Type 0 where
+  pub plus_table : IsTable S listed has_positive_last n v.plus
+  pub minus_table : IsTable S listed has_negative_last n v.minus
+  pub shelves_are : length v.shelves.items ≡ 256
+  pub reach_count : length v.reaches.items ≡ n
+  pub reaches_are : AreReaches listed v.reaches.items
+  pub sifted : AreSifted S listed d n v.shelves.items
+
 pub record IsSieve (S : LinearSystem) (listed : List (List ℤ)) (d : ℕ) (v : Sieve) : Type 0 where
   pub within : v.rows ≤ length listed
-  pub plus_table : IsTable S listed has_positive_last v.rows v.plus
-  pub minus_table : IsTable S listed has_negative_last v.rows v.minus
-  pub shelves_are : length v.shelves.items ≡ 256
-  pub reach_count : length v.reaches.items ≡ v.rows
-  pub reaches_are : AreReaches listed v.reaches.items
-  pub sifted : AreSifted S listed d v.rows v.shelves.items
+  pub upto : IsSieveTo S listed d v.rows v
 
 -- nothing was sifted
 pub record IsNewSieve (v : Sieve) : Type 0 where
   pub none : v.rows ≡ 0
   pub no_reaches : v.reaches.items ≡ []
   pub plus_ids : v.plus.ids.items ≡ []
-  pub plus_lines : v.plus.lines.items ≡ []
+  pub plus_groups : v.plus.groups.items ≡ []
   pub minus_ids : v.minus.ids.items ≡ []
-  pub minus_lines : v.minus.lines.items ≡ []
+  pub minus_groups : v.minus.groups.items ≡ []
   pub shelves_are : length v.shelves.items ≡ 256
+
+-- ---- what is asked of a row
+-- the row reaches the lines at the places, or bars them
+pub record AreAsked (S : LinearSystem) (listed : List (List ℤ)) (f : List ℤ) (r : Room) : Type 0 where
+  pub probe : length r.probe.items ≡ width S + 1
+  pub bars_count : length r.bars.items ≡ 2 * width S
+  pub reached_count : length r.reached.items ≡ 2 * width S
+  pub bars : AreTrue (BarsLine S listed f) true r.bars.items
+  pub reached : AreTrue (ReachesLine f) false r.reached.items
+  pub bar_reads : AreReads (ReachesLine f) (16 * width S) r.bar_reads.items
+  pub reach_reads : AreReads (BarsLine S listed f) (16 * width S) r.reach_reads.items
+
+-- there is room
+pub record IsRoom (S : LinearSystem) (r : Room) : Type 0 where
+  pub probe : length r.probe.items ≡ width S + 1
+  pub bars_count : length r.bars.items ≡ 2 * width S
+  pub reached_count : length r.reached.items ≡ 2 * width S

@@ -66,21 +66,6 @@ pub fn place_from(classes: &[Class], n: u64) -> usize
     low
 }
 
-/// The same, where the last one was at `near`, and `count` of them are looked for one after another.
-pub fn place_next(classes: &[Class], n: u64, near: usize, count: usize) -> usize
-    requires { IsStrictlySortedBy class_cmp classes.now }
-    ensures within { result ≤ length classes.now }
-    ensures before { (k : ℕ) → k < result → norm_at classes.now k < n }
-    ensures from { (k : ℕ) → result ≤ k → k < length classes.now → n ≤ norm_at classes.now k }
-{
-    // A step takes less time than a search, but there may be many.
-    if classes.len() / 16 < count {
-        place_near(classes, n, near)
-    } else {
-        place_from(classes, n)
-    }
-}
-
 /// The same, looked for from a place on: back, and then onward.
 fn place_near(classes: &[Class], n: u64, near: usize) -> usize
     requires { IsStrictlySortedBy class_cmp classes.now }
@@ -95,7 +80,7 @@ fn place_near(classes: &[Class], n: u64, near: usize) -> usize
     place
 }
 
-/// A place before which all norms are below n.
+/// A place before which all norms are below n, at or before another.
 fn place_below(classes: &[Class], n: u64, from: usize) -> usize
     requires sorted { IsStrictlySortedBy class_cmp classes.now }
     requires within { from ≤ length classes.now }
@@ -109,9 +94,26 @@ fn place_below(classes: &[Class], n: u64, from: usize) -> usize
     place
 }
 
+/// The first place of a norm that is not below n, where `count` of them are looked for one after another, and the last
+/// one was at `near`.
+fn place_next(classes: &[Class], n: u64, near: usize, count: usize) -> usize
+    requires { IsStrictlySortedBy class_cmp classes.now }
+    ensures within { result ≤ length classes.now }
+    ensures before { (k : ℕ) → k < result → norm_at classes.now k < n }
+    ensures from { (k : ℕ) → result ≤ k → k < length classes.now → n ≤ norm_at classes.now k }
+{
+    // A step takes less time than a search, but there may be many of them.
+    if classes.len() / 16 < count {
+        place_near(classes, n, near)
+    } else {
+        place_from(classes, n)
+    }
+}
+
 /// The places of the rows of norm n, where the first place of a norm that is not below it is known.
-pub fn ids_from(classes: &[Class], n: u64, place: usize) -> &[u32]
+fn ids_from(classes: &[Class], n: u64, place: usize) -> &[u32]
     requires sorted { IsStrictlySortedBy class_cmp classes.now }
+    requires within { place ≤ length classes.now }
     requires before { (k : ℕ) → k < place → norm_at classes.now k < n }
     requires from { (k : ℕ) → place ≤ k → k < length classes.now → n ≤ norm_at classes.now k }
     ensures { result.now ≡ ids_at classes.now n }
@@ -131,6 +133,15 @@ pub fn ids_of_norm(classes: &[Class], n: u64) -> &[u32]
     ids_from(classes, n, place_from(classes, n))
 }
 
+/// The number of rows of norm n, where `count` norms are looked for one after another: `near` keeps the place.
+pub fn size_near(classes: &[Class], n: u64, near: &mut usize, count: usize) -> u64
+    requires { IsStrictlySortedBy class_cmp classes.now }
+    ensures { result ≡ length (ids_at classes.now n) }
+{
+    *near = place_next(classes, n, *near, count);
+    ids_from(classes, n, *near).len() as u64
+}
+
 /// The number of pairs of norm e.
 pub fn count_pairs(plus: &[Class], minus: &[Class], e: u64) -> u64
     requires sorted { IsStrictlySortedBy class_cmp minus.now }
@@ -140,9 +151,8 @@ pub fn count_pairs(plus: &[Class], minus: &[Class], e: u64) -> u64
     let mut total: u64 = 0;
     let mut place = minus.len();
     for c in plus {
-        let n = e.saturating_sub(c.norm());
-        place = place_next(minus, n, place, plus.len());
-        total += c.ids().len() as u64 * ids_from(minus, n, place).len() as u64;
+        total += c.ids().len() as u64
+            * size_near(minus, e.saturating_sub(c.norm()), &mut place, plus.len());
     }
     total
 }
@@ -179,6 +189,21 @@ pub fn lesser(x: Option<u64>, y: Option<u64>) -> Option<u64>
     }
 }
 
+/// The least norm above d, where `count` of them are looked for one after another: `near` keeps the place.
+fn norm_above(classes: &[Class], d: u64, near: &mut usize, count: usize) -> Option<u64>
+    requires sorted { IsStrictlySortedBy class_cmp classes.now }
+    requires small { d < 2 ^ 63 }
+    ensures { IsLeastAbove (HasNorm classes.now) d result }
+{
+    let place = place_next(classes, d + 1, *near, count);
+    *near = place;
+    if place < classes.len() {
+        Some(classes[place].norm())
+    } else {
+        None
+    }
+}
+
 /// The least norm above d of a pair.
 pub fn pair_norm_above(plus: &[Class], minus: &[Class], d: u64) -> Option<u64>
     requires sorted { IsStrictlySortedBy class_cmp minus.now }
@@ -190,9 +215,9 @@ pub fn pair_norm_above(plus: &[Class], minus: &[Class], d: u64) -> Option<u64>
     let mut least = None;
     let mut place = minus.len();
     for c in plus {
-        place = place_next(minus, d - c.norm() + 1, place, plus.len());
-        if place < minus.len() {
-            least = lesser(least, Some(c.norm() + minus[place].norm()));
+        match norm_above(minus, d - c.norm(), &mut place, plus.len()) {
+            Some(m) => least = lesser(least, Some(c.norm() + m)),
+            None => {}
         }
     }
     least

@@ -1,62 +1,113 @@
 //! What a row says: which amounts its entries reach, and which amounts of a partner's bar a new sum with it.
 //!
-//! An item is a column with a sign, and has eight levels, of amounts 1, 2, 4 to 128. A row reaches a level of an item
+//! An item is a column with a sign, and has eight levels, of the amounts 1, 2, 4 to 128. A row reaches a level of an item
 //! where its entry has the sign and at least that amount. It bars a level of an item where no partner that reaches it
 //! makes an irreducible sum with it: since their entries have opposite signs, since the sum's is above the cap, or since
 //! a listed row with last entry 0 is below the row with that amount more.
 
-use std::alloc::AllocError;
-use int_vector::{Visits, below};
+ghost use Rattle.std.specs.Prelude.{◌≡◌, ◌+◌, ◌*◌, ◌/◌, ◌<◌, ◌≤◌, ◌^◌, ℕ, ℤ, List, pos, length, slice_index_or, IfSome, IsTrue, All, nat_abs};
+ghost use Rattle.std.specs.List.{Contains};
+ghost use Rattle.lift_core.specs.ToolSystems.{width};
+ghost use Rattle.stage_store.specs.Indexed.{HoldsRows};
+ghost use Rattle.stage_store.specs.Levels.{BarsLine, ReachesLine, AreTrue, IsOnSide, IsRaised, IsNear, IsNearOr, IsAgainst, IsFull, IsBarLevel, IsReachLevel};
+ghost use Rattle.stage_store.specs.Found.{IsReduced};
+
+use crate::reach::{fill_probe, find_listed};
+use int_vector::below;
 use lift_core::System;
 use reduce_tree::Tree;
 use row_pool::{Pool, RowId};
 
 /// How many levels an item has.
-pub const LEVELS: usize = 8;
+const LEVELS: u8 = 8;
+
+/// The greatest entry to which each amount can be added in range.
+const EDGE: i64 = 9_223_372_036_854_775_679;
 
 /// The amount of a level.
-fn amount(level: usize) -> u64 {
-    1 << level
+fn amount(level: u8) -> u64
+    requires { level < 8 }
+    ensures amount { result ≡ 2 ^ level }
+    ensures most { result ≤ 128 }
+{
+    1_u64 << level
 }
 
-/// The levels that an amount reaches, a bit for each.
-fn reached(size: u64) -> u8 {
-    let mut levels: u8 = 0;
-    for level in 0..LEVELS {
-        if size >= amount(level) {
-            levels |= 1 << level;
-        }
-    }
-    levels
-}
-
-/// The levels from one on, a bit for each.
-fn from_level(level: usize) -> u8 {
-    if level < LEVELS { 255 << level } else { 0 }
-}
-
-/// What is asked of a row: the system, the listed rows and their tree.
-pub struct Asked<'a> {
-    pub system: &'a System,
-    pub listed: &'a Pool,
-    pub tree: &'a Tree,
-}
-
-/// The entry with an amount more on the side of a sign.
-fn raised(entry: i64, positive: bool, level: usize) -> i64 {
+/// The entry with the amount of a level more, on the side of a sign; near the end of the range, itself.
+fn raised(entry: i64, positive: bool, level: u8) -> i64
+    requires level { level < 8 }
+    requires side { IsOnSide positive entry }
+    ensures { IsRaised positive level entry result }
+{
+    let more = amount(level) as i64;
     if positive {
-        entry.saturating_add(amount(level) as i64)
+        if entry <= EDGE { entry + more } else { entry }
+    } else if entry >= -EDGE {
+        entry - more
     } else {
-        entry.saturating_sub(amount(level) as i64)
+        entry
     }
 }
 
-/// The least level from which on the row with that amount more has this row below it.
-fn settle(row: &[i64], from: &[i64], column: usize, positive: bool, probe: &mut [i64], level: usize) -> usize {
+/// Writes the row with last entry 0 and the amount of a level more.
+fn fill_raised(row: &[i64], column: usize, positive: bool, level: u8, probe: &mut [i64])
+    requires level { level < 8 }
+    requires column { column + 1 < length row.now }
+    requires lengths { length row.now ≡ length probe.old }
+    requires side { IsOnSide positive (slice_index_or row.now column (pos 0)) }
+    ensures length { length probe.new ≡ length probe.old }
+    ensures raised { (listed : List (List ℤ)) → IsReduced listed probe.new → IsNear listed row.now column positive level }
+{
+    fill_probe(row, 0, probe);
+    probe[column] = raised(row[column], positive, level);
+}
+
+/// Whether this listed row shows that one is near a row.
+fn shows_near(
+    other: &[i64],
+    row: &[i64],
+    column: usize,
+    positive: bool,
+    level: u8,
+    probe: &mut [i64],
+) -> bool
+    requires level { level < 8 }
+    requires column { column + 1 < length row.now }
+    requires lengths { length row.now ≡ length probe.old }
+    requires other { length other.now ≡ length row.now }
+    requires side { IsOnSide positive (slice_index_or row.now column (pos 0)) }
+    ensures length { length probe.new ≡ length probe.old }
+    ensures near { (listed : List (List ℤ)) → Contains listed other.now → IsTrue result → IsNear listed row.now column positive level }
+{
+    fill_raised(row, column, positive, level, probe);
+    below(other, probe)
+}
+
+/// The least level, up to one, at which this listed row is near another.
+fn settle(
+    listed: &Pool,
+    id: RowId,
+    row: &[i64],
+    column: usize,
+    positive: bool,
+    level: u8,
+    probe: &mut [i64],
+) -> u8
+    requires id { id.0 < length listed.now.rows }
+    requires level { level < 8 }
+    requires column { column + 1 < length row.now }
+    requires lengths { length row.now ≡ length probe.old }
+    requires width { listed.now.width ≡ length row.now }
+    requires side { IsOnSide positive (slice_index_or row.now column (pos 0)) }
+    requires near { IsNear listed.now.rows row.now column positive level }
+    ensures length { length probe.new ≡ length probe.old }
+    ensures level { result ≤ level }
+    ensures near { IsNear listed.now.rows row.now column positive result }
+{
+    let other = listed.row(id);
     let mut known = level;
     while known > 0 {
-        probe[column] = raised(from[column], positive, known - 1);
-        if !below(row, probe) {
+        if !shows_near(other, row, column, positive, known - 1, probe) {
             return known;
         }
         known -= 1;
@@ -64,64 +115,156 @@ fn settle(row: &[i64], from: &[i64], column: usize, positive: bool, probe: &mut 
     known
 }
 
-/// The least known level from which on a listed row is below the row with that amount more, or `LEVELS`.
-fn near(listed: &Pool, tree: &Tree, row: &[i64], column: usize, positive: bool, probe: &mut [i64]) -> usize {
-    let mut level = LEVELS;
-    while level > 0 {
-        probe[column] = raised(row[column], positive, level - 1);
-        let Some(id) = tree.find_below(listed, probe, &mut Visits { count: 0 }) else { break };
-        level = settle(listed.row(id), row, column, positive, probe, level - 1);
-    }
-    probe[column] = row[column];
-    level
+/// A listed row that is near a row at a level.
+fn find_near(
+    listed: &Pool,
+    tree: &Tree,
+    row: &[i64],
+    column: usize,
+    positive: bool,
+    level: u8,
+    probe: &mut [i64],
+) -> Option<RowId>
+    requires indexed { HoldsRows tree.now listed.now }
+    requires level { level < 8 }
+    requires column { column + 1 < length row.now }
+    requires lengths { length row.now ≡ length probe.old }
+    requires width { listed.now.width ≡ length row.now }
+    requires side { IsOnSide positive (slice_index_or row.now column (pos 0)) }
+    ensures length { length probe.new ≡ length probe.old }
+    ensures inside { IfSome result (λ id. id.0 < length listed.now.rows) }
+    ensures near { IfSome result (λ _. IsNear listed.now.rows row.now column positive level) }
+{
+    fill_raised(row, column, positive, level, probe);
+    find_listed(listed, tree, probe)
 }
 
-/// The levels that a row bars of an item.
-fn bars(system: &System, listed: &Pool, tree: &Tree, row: &[i64], column: usize, positive: bool, probe: &mut [i64]) -> u8 {
-    let entry = row[column];
-    if (positive && entry < 0) || (!positive && entry > 0) {
-        return 255;
+/// The least level at which a listed row is near a row, and 8 where none was found.
+fn near_level(
+    listed: &Pool,
+    tree: &Tree,
+    row: &[i64],
+    column: usize,
+    positive: bool,
+    probe: &mut [i64],
+) -> u8
+    requires indexed { HoldsRows tree.now listed.now }
+    requires column { column + 1 < length row.now }
+    requires lengths { length row.now ≡ length probe.old }
+    requires width { listed.now.width ≡ length row.now }
+    requires side { IsOnSide positive (slice_index_or row.now column (pos 0)) }
+    ensures length { length probe.new ≡ length probe.old }
+    ensures near { IsNearOr listed.now.rows row.now column positive result }
+{
+    let mut known = LEVELS;
+    while known > 0 {
+        let level = known - 1;
+        match find_near(listed, tree, row, column, positive, level, probe) {
+            None => return known,
+            Some(id) => known = settle(listed, id, row, column, positive, level, probe),
+        }
     }
-    let sign = system.sign(column as u32 + 1);
-    if (positive && sign == -1) || (!positive && sign == 1) {
+    known
+}
+
+/// Whether an entry has a sign against the item's.
+fn is_against(entry: i64, positive: bool) -> bool
+    ensures { IsTrue result ↔ IsAgainst positive entry }
+{
+    if positive { entry < 0 } else { entry > 0 }
+}
+
+/// Whether a column with a sign has no entries of the item's sign.
+fn is_one_sided(sign: i8, positive: bool) -> bool {
+    if positive { sign == -1 } else { sign == 1 }
+}
+
+/// Whether each larger entry is above the cap.
+fn is_full(cap: Option<u64>, entry: i64) -> bool
+    ensures { IsTrue result → IsFull cap entry }
+{
+    match cap {
+        Some(most) => entry.unsigned_abs() >= most,
+        None => false,
+    }
+}
+
+/// The level from which on a row bars an item.
+fn bar_level(
+    system: &System,
+    listed: &Pool,
+    tree: &Tree,
+    row: &[i64],
+    column: usize,
+    positive: bool,
+    probe: &mut [i64],
+) -> u8
+    requires indexed { HoldsRows tree.now listed.now }
+    requires column { column < width system.now.equations }
+    requires row { length row.now ≡ width system.now.equations + 1 }
+    requires lengths { length row.now ≡ length probe.old }
+    requires width { listed.now.width ≡ length row.now }
+    ensures length { length probe.new ≡ length probe.old }
+    ensures bars { IsBarLevel system.now.equations listed.now.rows row.now column positive result }
+{
+    if is_against(row[column], positive) || is_full(system.cap(column as u32 + 1), row[column]) {
         return 0;
     }
-    if let Some(cap) = system.cap(column as u32 + 1) {
-        if entry.unsigned_abs() + 1 > cap {
-            return 255;
-        }
+    // No row has an entry there, so nothing is gained by a search.
+    if is_one_sided(system.sign(column as u32 + 1), positive) {
+        return LEVELS;
     }
-    from_level(near(listed, tree, row, column, positive, probe))
+    near_level(listed, tree, row, column, positive, probe)
 }
 
-/// The levels of an item that an entry reaches.
-fn reaches(entry: i64, positive: bool) -> u8 {
-    if (positive && entry > 0) || (!positive && entry < 0) { reached(entry.unsigned_abs()) } else { 0 }
+/// The number of levels of an item that an entry reaches.
+fn reach_level(row: &[i64], column: usize, positive: bool) -> u8
+    requires { column < length row.now }
+    ensures { IsReachLevel row.now column positive result }
+{
+    let entry = row[column];
+    if !is_against(entry, !positive) {
+        return 0;
+    }
+    let size = entry.unsigned_abs();
+    for level in 0..LEVELS {
+        if size < amount(level) {
+            return level;
+        }
+    }
+    LEVELS
 }
 
-/// Writes what a row says: first what it bars, and then what it reaches, a byte for each item.
-pub fn fill_says(system: &System, listed: &Pool, tree: &Tree, i: u32, probe: &mut [i64], says: &mut [u8]) {
-    let width = system.width() as usize;
-    let row = listed.row(RowId(i));
-    probe.copy_from_slice(row);
-    probe[width] = 0;
-    for k in 0..2 * width {
-        says[k] = bars(system, listed, tree, row, k / 2, k % 2 == 0, probe);
-        says[2 * width + k] = reaches(row[k / 2], k % 2 == 0);
+/// Writes from which level on a row bars each item.
+pub fn fill_bars(
+    system: &System,
+    listed: &Pool,
+    tree: &Tree,
+    row: &[i64],
+    probe: &mut [i64],
+    bars: &mut [u8],
+)
+    requires indexed { HoldsRows tree.now listed.now }
+    requires row { length row.now ≡ width system.now.equations + 1 }
+    requires lengths { length row.now ≡ length probe.old }
+    requires width { listed.now.width ≡ length row.now }
+    requires bars { length bars.old ≡ 2 * width system.now.equations }
+    ensures probe { length probe.new ≡ length probe.old }
+    ensures length { length bars.new ≡ length bars.old }
+    ensures bars { AreTrue (BarsLine system.now.equations listed.now.rows row.now) true bars.new }
+{
+    for k in 0..bars.len() {
+        bars[k] = bar_level(system, listed, tree, row, k / 2, k % 2 == 0, probe);
     }
 }
 
-/// The lines that are read for a row that says this: a row with a bit in one of them makes no irreducible sum with it.
-pub fn take_reads(says: &[u8], reads: &mut Vec<u32>) -> Result<(), AllocError> {
-    let half = says.len() / 2;
-    reads.truncate(0);
-    for k in 0..half {
-        if says[k] != 0 {
-            reads.push((8 * (half + k)) as u32 + says[k].trailing_zeros())?;
-        }
-        if says[half + k] != 0 {
-            reads.push((8 * k) as u32 + 7 - says[half + k].leading_zeros())?;
-        }
+/// Writes how many levels of each item a row reaches.
+pub fn fill_reached(row: &[i64], reached: &mut [u8])
+    requires lengths { length reached.old < 2 * length row.now }
+    ensures length { length reached.new ≡ length reached.old }
+    ensures reached { AreTrue (ReachesLine row.now) false reached.new }
+{
+    for k in 0..reached.len() {
+        reached[k] = reach_level(row, k / 2, k % 2 == 0);
     }
-    Ok(())
 }

@@ -8,7 +8,7 @@ ghost use Rattle.stage_store.specs.Classes.{class_cmp, ids_of, part_size, row_at
 ghost use Rattle.stage_store.specs.Sieve.{AreNormed};
 ghost use Rattle.stage_store.specs.Opened.{AreAscending, AscendWithin, AreStarts, HasNoClass, IsClassOf, IsPlacedIn, IsNumberOf, HasNoNumber, IsNotNumbered, AreOpened, open_number};
 
-use crate::class::{Class, ids_from, ids_of_norm, place_from, place_next};
+use crate::class::{Class, ids_of_norm, place_from, size_near};
 use crate::sieve::{KeptPair, norm_of};
 use row_pool::{Pool, RowId};
 use std::alloc::{AllocError, Global};
@@ -56,9 +56,8 @@ fn part_starts(
     let mut place = minus.len();
     for c in plus {
         starts.push(total)?;
-        let n = e.saturating_sub(c.norm());
-        place = place_next(minus, n, place, plus.len());
-        total += c.ids().len() as u64 * ids_from(minus, n, place).len() as u64;
+        total += c.ids().len() as u64
+            * size_near(minus, e.saturating_sub(c.norm()), &mut place, plus.len());
     }
     Ok(starts)
 }

@@ -12,12 +12,14 @@ ghost use Rattle.row_pool.specs.Rows.{InRange};
 ghost use Rattle.stage_store.specs.Indexed.{HoldsRows};
 ghost use Rattle.lift_core.specs.Stages.{stage_norm, has_positive_last, has_negative_last};
 ghost use Rattle.stage_store.specs.Classes.{row_at, rows_at, places, sign_test};
-ghost use Rattle.stage_store.specs.Clashes.{TellClashes, TellsOf};
-ghost use Rattle.stage_store.specs.Sieve.{IsKept, Stay, HasNoNewSum, HasNoNewSumBy, IsSiftedBy, AreSiftedBy, AreLines, IsFullTable, AreSiftedFrom, IsTable, IsSieve, IsNewSieve, AreFarApart, AreReaches, AreNormed, AreWide, pair_by};
+ghost use Rattle.stage_store.specs.Lines.{AreClear, AreInside};
+ghost use Rattle.stage_store.specs.Levels.{AreTrue, BarsLine, ReachesLine};
+ghost use Rattle.stage_store.specs.Reaches.{AreFarApart, AreReaches};
+ghost use Rattle.stage_store.specs.Sieve.{IsKept, Stay, HasNoNewSum, HasNoNewSumBy, IsSiftedBy, AreSiftedBy, IsGroup, AreGroups, IsSized, AreSized, IsDead, IsTable, IsSieveTo, IsSieve, IsNewSieve, IsRoom, AreAsked, AreNormed, AreWide, pair_by};
 
-use crate::lines::Lines;
-use crate::marks::{fill_says, take_reads};
 use crate::growing::has_sign;
+use crate::lines::{Lines, take_said};
+use crate::marks::{fill_bars, fill_reached};
 use crate::reach::reach_of;
 use int_vector::norm;
 use lift_core::System;
@@ -79,11 +81,31 @@ impl Shelf {
     }
 }
 
-/// The listed rows of one sign of the last entry, by their places, and lines of bits over each 64 of them.
+/// Lines over 64 rows: for each level of each item which rows bar it, and which reach it.
+#[derive(Drop)]
+pub struct Group {
+    bars: Lines,
+    reached: Lines,
+}
+
+/// The listed rows of one sign of the last entry, by their places, and lines over each 64 of them.
 #[derive(Drop)]
 pub struct Table {
     ids: Vec<u32>,
-    lines: Vec<Lines>,
+    groups: Vec<Group>,
+}
+
+/// Room for what is asked of a row: from which level on it bars each item, how many levels of each it reaches, and the
+/// lines that are read for it.
+#[derive(Drop)]
+pub struct Room {
+    probe: Vec<i64>,
+    bars: Vec<u8>,
+    reached: Vec<u8>,
+    /// Where rows that bar what this one reaches have a bit.
+    bar_reads: Vec<u32>,
+    /// Where rows that reach what this one bars have a bit.
+    reach_reads: Vec<u32>,
 }
 
 /// The sieve over the first listed rows.
@@ -207,9 +229,9 @@ fn is_far(first: &[i64], second: &[i64], width: usize, reach: u64, other_reach: 
 fn are_far(listed: &Pool, width: usize, reaches: &[u64], f: u32, g: u32) -> bool
     requires width { listed.now.width ≡ width + 1 }
     requires reaches { AreReaches listed.now.rows reaches.now }
-    requires count { length reaches.now ≡ length listed.now.rows }
-    requires one { f < length listed.now.rows }
-    requires two { g < length listed.now.rows }
+    requires count { length reaches.now ≤ length listed.now.rows }
+    requires one { f < length reaches.now }
+    requires two { g < length reaches.now }
     ensures { (S : LinearSystem) → IsTrue result → HasNoNewSum S listed.now.rows f g }
 {
     is_far(
@@ -225,9 +247,9 @@ fn are_far(listed: &Pool, width: usize, reaches: &[u64], f: u32, g: u32) -> bool
 fn is_passed(listed: &Pool, width: usize, reaches: &[u64], positive: bool, i: u32, j: u32) -> bool
     requires width { listed.now.width ≡ width + 1 }
     requires reaches { AreReaches listed.now.rows reaches.now }
-    requires count { length reaches.now ≡ length listed.now.rows }
-    requires one { i < length listed.now.rows }
-    requires two { j < length listed.now.rows }
+    requires count { length reaches.now ≤ length listed.now.rows }
+    requires one { i < length reaches.now }
+    requires two { j < length reaches.now }
     ensures { (S : LinearSystem) → IsTrue result → HasNoNewSumBy positive S listed.now.rows i j }
 {
     if positive {
@@ -237,7 +259,7 @@ fn is_passed(listed: &Pool, width: usize, reaches: &[u64], positive: bool, i: u3
     }
 }
 
-/// Sifts the pairs of a row with at most 64 others, each of which has a bit of `clashing` that tells, where it is set,
+/// Sifts the pairs of a row with at most 64 others, each of which has a bit of `dead` that tells, where it is set,
 /// that the pair has no irreducible sum.
 fn sift_group(
     shelves: &mut Vec<Shelf>,
@@ -247,24 +269,28 @@ fn sift_group(
     positive: bool,
     i: u32,
     others: &[u32],
-    clashing: u64,
+    dead: u64,
 ) -> Result<(), AllocError>
     requires count { length shelves.old.items ≡ 256 }
     requires reaches { AreReaches listed.now.rows reaches.now }
-    requires reach_count { length reaches.now ≡ length listed.now.rows }
+    requires reach_count { length reaches.now ≤ length listed.now.rows }
     requires width { listed.now.width ≡ width system.now.equations + 1 }
     requires norms { AreNormed listed.now.rows }
-    requires row { i < length listed.now.rows }
-    requires others { AllByRecursion (λ j. j < length listed.now.rows) others.now }
+    requires row { i < length reaches.now }
+    requires others { AllByRecursion (λ j. j < length reaches.now) others.now }
     requires most { length others.now ≤ 64 }
-    requires clashing { (k : ℕ) → k < length others.now → bit_at clashing k ≡ 1 → HasNoNewSumBy positive system.now.equations listed.now.rows i (slice_index_or others.now k 0) }
+    requires dead { (k : ℕ) → k < length others.now → bit_at dead k ≡ 1 → HasNoNewSumBy positive system.now.equations listed.now.rows i (slice_index_or others.now k 0) }
     ensures count { length shelves.new.items ≡ 256 }
     ensures stay { Stay shelves.old.items shelves.new.items }
     ensures sifted { OnOk result (AreSiftedBy positive system.now.equations listed.now.rows shelves.new.items i others.now) }
 {
+    // Of most groups all rows are out.
+    if dead == u64::MAX {
+        return Ok(());
+    }
     let width = system.width() as usize;
     for k in 0..others.len() {
-        if (clashing >> k) & 1 == 1 {
+        if (dead >> k) & 1 == 1 {
             continue;
         }
         if is_passed(listed, width, reaches, positive, i, others[k]) {
@@ -275,28 +301,121 @@ fn sift_group(
     Ok(())
 }
 
+impl Group {
+    /// So many lines of each kind, without a bit that is set.
+    fn new(alloc: Global, count: usize) -> Result<Group, AllocError>
+        ensures sized { IfOk result (IsSized count) }
+        ensures bars { IfOk result (λ g. AreClear g.bars) }
+        ensures reached { IfOk result (λ g. AreClear g.reached) }
+    {
+        Ok(Group {
+            bars: Lines::new(alloc, count)?,
+            reached: Lines::new(alloc, count)?,
+        })
+    }
+
+    /// The rows that make no irreducible sum with the one for which these lines are read.
+    fn dead(&self, bar_reads: &[u32], reach_reads: &[u32]) -> u64
+        requires bars { AreInside (length self.now.bars) bar_reads.now }
+        requires reached { AreInside (length self.now.reached) reach_reads.now }
+        ensures { IsDead self.now bar_reads.now reach_reads.now result }
+    {
+        self.bars.any(bar_reads) | self.reached.any(reach_reads)
+    }
+}
+
 impl Table {
     /// A table without rows.
     fn new(alloc: Global) -> Table
         ensures ids { result.ids.items ≡ [] }
-        ensures lines { result.lines.items ≡ [] }
+        ensures groups { result.groups.items ≡ [] }
     {
         Table {
             ids: Vec::new(alloc),
-            lines: Vec::new(alloc),
+            groups: Vec::new(alloc),
         }
     }
 
-    /// Takes in a row that says this.
-    fn push(&mut self, alloc: Global, i: u32, says: &[u8]) -> Result<(), AllocError> {
-        let q = self.ids.len() % 64;
-        if q == 0 {
-            self.lines.push(Lines::new(alloc, 8 * says.len())?)?;
+    /// Makes room for one row more in the last group.
+    fn open_group(&mut self, alloc: Global, count: usize) -> Result<(), AllocError>
+        requires count { length self.old.groups.items ≡ (length self.old.ids.items + 63) / 64 }
+        requires sized { AreSized count self.old.groups.items }
+        ensures ids { self.new.ids ≡ self.old.ids }
+        ensures count { OnOk result (length self.new.groups.items ≡ length self.old.ids.items / 64 + 1) }
+        ensures sized { OnOk result (AreSized count self.new.groups.items) }
+        ensures groups { OnOk result ((S : LinearSystem) (listed : List (List ℤ)) → AreGroups S listed self.old.ids.items self.old.groups.items → AreGroups S listed self.old.ids.items self.new.groups.items) }
+    {
+        if self.ids.len() % 64 == 0 {
+            self.groups.push(Group::new(alloc, count)?)?;
         }
-        let group = self.ids.len() / 64;
-        self.ids.push(i)?;
-        self.lines[group].mark(says, q);
         Ok(())
+    }
+
+    /// Takes in a row, with what it bars and reaches.
+    fn push(
+        &mut self,
+        alloc: Global,
+        i: u32,
+        bars: &[u8],
+        reached: &[u8],
+    ) -> Result<(), AllocError>
+        requires few { length bars.now ≤ 260 }
+        requires lengths { length bars.now ≡ length reached.now }
+        requires count { length self.old.groups.items ≡ (length self.old.ids.items + 63) / 64 }
+        requires sized { AreSized (8 * length bars.now) self.old.groups.items }
+        ensures ids { OnOk result (self.new.ids.items ≡ self.old.ids.items ++ i ∷ []) }
+        ensures count { OnOk result (length self.new.groups.items ≡ (length self.new.ids.items + 63) / 64) }
+        ensures sized { OnOk result (AreSized (8 * length bars.now) self.new.groups.items) }
+        ensures groups { OnOk result ((S : LinearSystem) (listed : List (List ℤ)) → AreGroups S listed self.old.ids.items self.old.groups.items
+            → AreTrue (BarsLine S listed (row_at listed i)) true bars.now → AreTrue (ReachesLine (row_at listed i)) false reached.now → AreGroups S listed self.new.ids.items self.new.groups.items) }
+    {
+        let place = self.ids.len();
+        self.open_group(alloc, 8 * bars.len())?;
+        self.ids.push(i)?;
+        let group = &mut self.groups[place / 64];
+        group.bars.mark(true, bars, place % 64);
+        group.reached.mark(false, reached, place % 64);
+        Ok(())
+    }
+}
+
+impl Room {
+    /// Room for what is asked of a row with so many entries before its last.
+    fn new(alloc: Global, width: usize) -> Result<Room, AllocError>
+        requires { width ≤ 129 }
+        ensures probe { IfOk result (λ r. length r.probe.items ≡ width + 1) }
+        ensures bars { IfOk result (λ r. length r.bars.items ≡ 2 * width) }
+        ensures reached { IfOk result (λ r. length r.reached.items ≡ 2 * width) }
+    {
+        Ok(Room {
+            probe: vec![in alloc; 0; width + 1]?,
+            bars: vec![in alloc; 0; 2 * width]?,
+            reached: vec![in alloc; 0; 2 * width]?,
+            bar_reads: Vec::new(alloc),
+            reach_reads: Vec::new(alloc),
+        })
+    }
+
+    /// Asks a row.
+    fn ask(
+        &mut self,
+        system: &System,
+        listed: &Pool,
+        tree: &Tree,
+        i: u32,
+    ) -> Result<(), AllocError>
+        requires indexed { HoldsRows tree.now listed.now }
+        requires width { listed.now.width ≡ width system.now.equations + 1 }
+        requires row { i < length listed.now.rows }
+        requires room { IsRoom system.now.equations self.old }
+        ensures room { IsRoom system.now.equations self.new }
+        ensures asked { OnOk result (AreAsked system.now.equations listed.now.rows (row_at listed.now.rows i) self.new) }
+    {
+        let row = listed.row(RowId(i));
+        fill_bars(system, listed, tree, row, &mut self.probe, &mut self.bars);
+        fill_reached(row, &mut self.reached);
+        take_said(false, &self.reached, &mut self.bar_reads)?;
+        take_said(true, &self.bars, &mut self.reach_reads)
     }
 }
 
@@ -309,16 +428,29 @@ fn sift_row(
     positive: bool,
     i: u32,
     table: &Table,
-    reads: &[u32],
+    room: &Room,
 ) -> Result<(), AllocError>
+    requires count { length shelves.old.items ≡ 256 }
+    requires reaches { AreReaches listed.now.rows reaches.now }
+    requires reach_count { length reaches.now ≤ length listed.now.rows }
+    requires width { listed.now.width ≡ width system.now.equations + 1 }
+    requires norms { AreNormed listed.now.rows }
+    requires wide { AreWide (width system.now.equations + 1) listed.now.rows }
+    requires row { i < length reaches.now }
+    requires places { AllByRecursion (λ j. j < length reaches.now) table.now.ids.items }
+    requires few { length table.now.ids.items ≤ 2 ^ 21 }
+    requires groups { length table.now.groups.items ≡ (length table.now.ids.items + 63) / 64 }
+    requires sized { AreSized (16 * width system.now.equations) table.now.groups.items }
+    requires tell { AreGroups system.now.equations listed.now.rows table.now.ids.items table.now.groups.items }
+    requires asked { AreAsked system.now.equations listed.now.rows (row_at listed.now.rows i) room.now }
+    ensures count { length shelves.new.items ≡ 256 }
+    ensures stay { Stay shelves.old.items shelves.new.items }
+    ensures sifted { OnOk result (AreSiftedBy positive system.now.equations listed.now.rows shelves.new.items i table.now.ids.items) }
 {
-    for group in 0..table.lines.len() {
-        let dead = table.lines[group].any(reads);
-        if dead == u64::MAX {
-            continue;
-        }
+    for group in 0..table.groups.len() {
         let from = 64 * group;
         let to = table.ids.len().min(from + 64);
+        let dead = table.groups[group].dead(&room.bar_reads, &room.reach_reads);
         let others = &table.ids[from..to];
         sift_group(
             shelves, system, listed, reaches, positive, i, others, dead,
@@ -360,7 +492,7 @@ impl Sieve {
         ensures held { IsSieve system.now.equations listed.now.rows norm self.new }
         ensures all { OnOk result (self.new.rows ≡ length listed.now.rows) }
     {
-        match self.sift_rows(alloc, system, listed, tree) {
+        match self.sift_rows(alloc, system, listed, tree, norm) {
             Ok(()) => {
                 self.rows = listed.len();
                 Ok(())
@@ -375,23 +507,29 @@ impl Sieve {
         }
     }
 
-    /// Sifts the pairs of the rows that were listed since, and takes them into the tables.
+    /// Sifts the pairs of the rows that were listed since, one row after another.
     fn sift_rows(
         &mut self,
         alloc: Global,
         system: &System,
         listed: &Pool,
         tree: &Tree,
+        norm: u64,
     ) -> Result<(), AllocError>
+        requires indexed { HoldsRows tree.now listed.now }
+        requires width { listed.now.width ≡ width system.now.equations + 1 }
+        requires narrow { width system.now.equations ≤ 129 }
+        requires few { length listed.now.rows ≤ 2 ^ 21 }
+        requires norms { AreNormed listed.now.rows }
+        requires wide { AreWide (width system.now.equations + 1) listed.now.rows }
+        requires within { self.old.rows ≤ length listed.now.rows }
+        requires upto { IsSieveTo system.now.equations listed.now.rows norm self.old.rows self.old }
+        ensures shelves { length self.new.shelves.items ≡ 256 }
+        ensures upto { OnOk result (IsSieveTo system.now.equations listed.now.rows norm (length listed.now.rows) self.new) }
     {
-        let width = system.width() as usize;
-        let mut room = Room {
-            probe: vec![in alloc; 0; width + 1]?,
-            says: vec![in alloc; 0; 4 * width]?,
-            reads: Vec::new(alloc),
-        };
+        let mut room = Room::new(alloc, system.width() as usize)?;
         for i in self.rows..listed.len() {
-            self.sift_next(alloc, system, listed, tree, i, &mut room)?;
+            self.sift_next(alloc, system, listed, tree, norm, i, &mut room)?;
         }
         Ok(())
     }
@@ -403,33 +541,112 @@ impl Sieve {
         system: &System,
         listed: &Pool,
         tree: &Tree,
+        norm: u64,
         i: u32,
         room: &mut Room,
     ) -> Result<(), AllocError>
+        requires indexed { HoldsRows tree.now listed.now }
+        requires width { listed.now.width ≡ width system.now.equations + 1 }
+        requires narrow { width system.now.equations ≤ 129 }
+        requires few { length listed.now.rows ≤ 2 ^ 21 }
+        requires norms { AreNormed listed.now.rows }
+        requires wide { AreWide (width system.now.equations + 1) listed.now.rows }
+        requires row { i < length listed.now.rows }
+        requires upto { IsSieveTo system.now.equations listed.now.rows norm i self.old }
+        requires room { IsRoom system.now.equations room.old }
+        ensures room { IsRoom system.now.equations room.new }
+        ensures shelves { length self.new.shelves.items ≡ 256 }
+        ensures upto { OnOk result (IsSieveTo system.now.equations listed.now.rows norm (i + 1) self.new) }
     {
         let width = system.width() as usize;
-        let row = listed.row(RowId(i));
-        let positive = row[width] > 0;
-        if row[width] == 0 {
-            self.reaches.push(0)?;
-            return Ok(());
+        if has_sign(listed.row(RowId(i)), width, true) {
+            return self.sift_above(alloc, system, listed, tree, norm, i, room);
         }
-        self.reaches.push(reach_of(listed, tree, row, &mut room.probe))?;
-        fill_says(system, listed, tree, i, &mut room.probe, &mut room.says);
-        take_reads(&room.says, &mut room.reads)?;
-        if positive {
-            sift_row(&mut self.shelves, system, listed, &self.reaches, true, i, &self.minus, &room.reads)?;
-            self.plus.push(alloc, i, &room.says)
-        } else {
-            sift_row(&mut self.shelves, system, listed, &self.reaches, false, i, &self.plus, &room.reads)?;
-            self.minus.push(alloc, i, &room.says)
+        if has_sign(listed.row(RowId(i)), width, false) {
+            return self.sift_under(alloc, system, listed, tree, norm, i, room);
         }
+        self.reaches.push(0)
     }
-}
 
-/// Room for what is asked of a row.
-struct Room {
-    probe: Vec<i64>,
-    says: Vec<u8>,
-    reads: Vec<u32>,
+    /// Sifts the pairs of a row with last entry above 0.
+    fn sift_above(
+        &mut self,
+        alloc: Global,
+        system: &System,
+        listed: &Pool,
+        tree: &Tree,
+        norm: u64,
+        i: u32,
+        room: &mut Room,
+    ) -> Result<(), AllocError>
+        requires indexed { HoldsRows tree.now listed.now }
+        requires width { listed.now.width ≡ width system.now.equations + 1 }
+        requires narrow { width system.now.equations ≤ 129 }
+        requires few { length listed.now.rows ≤ 2 ^ 21 }
+        requires norms { AreNormed listed.now.rows }
+        requires wide { AreWide (width system.now.equations + 1) listed.now.rows }
+        requires row { i < length listed.now.rows }
+        requires sign { has_positive_last (row_at listed.now.rows i) ≡ true }
+        requires upto { IsSieveTo system.now.equations listed.now.rows norm i self.old }
+        requires room { IsRoom system.now.equations room.old }
+        ensures room { IsRoom system.now.equations room.new }
+        ensures shelves { length self.new.shelves.items ≡ 256 }
+        ensures upto { OnOk result (IsSieveTo system.now.equations listed.now.rows norm (i + 1) self.new) }
+    {
+        room.ask(system, listed, tree, i)?;
+        let reach = reach_of(listed, tree, listed.row(RowId(i)), &mut room.probe);
+        self.reaches.push(reach)?;
+        sift_row(
+            &mut self.shelves,
+            system,
+            listed,
+            &self.reaches,
+            true,
+            i,
+            &self.minus,
+            room,
+        )?;
+        self.plus.push(alloc, i, &room.bars, &room.reached)
+    }
+
+    /// Sifts the pairs of a row with last entry below 0.
+    fn sift_under(
+        &mut self,
+        alloc: Global,
+        system: &System,
+        listed: &Pool,
+        tree: &Tree,
+        norm: u64,
+        i: u32,
+        room: &mut Room,
+    ) -> Result<(), AllocError>
+        requires indexed { HoldsRows tree.now listed.now }
+        requires width { listed.now.width ≡ width system.now.equations + 1 }
+        requires narrow { width system.now.equations ≤ 129 }
+        requires few { length listed.now.rows ≤ 2 ^ 21 }
+        requires norms { AreNormed listed.now.rows }
+        requires wide { AreWide (width system.now.equations + 1) listed.now.rows }
+        requires row { i < length listed.now.rows }
+        requires sign { has_negative_last (row_at listed.now.rows i) ≡ true }
+        requires upto { IsSieveTo system.now.equations listed.now.rows norm i self.old }
+        requires room { IsRoom system.now.equations room.old }
+        ensures room { IsRoom system.now.equations room.new }
+        ensures shelves { length self.new.shelves.items ≡ 256 }
+        ensures upto { OnOk result (IsSieveTo system.now.equations listed.now.rows norm (i + 1) self.new) }
+    {
+        room.ask(system, listed, tree, i)?;
+        let reach = reach_of(listed, tree, listed.row(RowId(i)), &mut room.probe);
+        self.reaches.push(reach)?;
+        sift_row(
+            &mut self.shelves,
+            system,
+            listed,
+            &self.reaches,
+            false,
+            i,
+            &self.plus,
+            room,
+        )?;
+        self.minus.push(alloc, i, &room.bars, &room.reached)
+    }
 }
