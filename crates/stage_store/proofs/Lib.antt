@@ -18,11 +18,14 @@ pub mod UnitVectors
 pub mod Kept
 pub mod Starting
 pub mod Ordered
-pub mod Gains
-pub mod Skipped
 pub mod NumberedSums
 pub mod Sorting
 pub mod CountedPairs
 pub mod ClassesByNorm
 pub mod Rebuilt
 pub mod Sound
+pub mod Sifting
+pub mod Tables
+pub mod Opening
+pub mod Reaches
+pub mod MoreRows

@@ -1,0 +1,10 @@
+use Rattle.std.proofs.Common.{◌≡◌, ◌≤◌, length}
+use Rattle.stage_store.specs.Sieve.{IsReachOr}
+use Rattle.stage_store.proofs.reach.reach_of.Given as goal
+
+abbrev pub invariant-loop : goal.invariant-loop
+invariant-loop l = record {
+  probe : length l.probe ≡ length l.fn.probe;
+  next : l.next ≤ 9223372036854775807;
+  reach : IsReachOr l.listed.rows l.row l.reach;
+}

@@ -1,0 +1,41 @@
+use Rattle.std.proofs.Common.{◌≡◌, ◌∙◌, ◌+◌, ◌<◌, ℕ, sym, refl, inl, inr, slice_index_or, arith}
+use Rattle.std.specs.Int.{bit_at}
+use Rattle.std.proofs.lemmas.Nat.Bits.{shr_and_one}
+use borrow.Author.Count.{below_more}
+use Rattle.stage_store.specs.Sieve.{IsSiftedBy}
+use Rattle.stage_store.proofs.Classes.{each_at}
+use Rattle.stage_store.proofs.Sifting.{sifted_stays, stay_through}
+use Rattle.stage_store.proofs.sieve.sift_group.Goals as goal
+
+pub loop-k-preserved-then-clashing-k-eq1 : goal.loop-k-preserved-then-clashing-k-eq1
+loop-k-preserved-then-clashing-k-eq1 c =
+    let bit : bit_at c.args.clashing c.loop-k.k ≡ 1 = sym (shr_and_one c.args.clashing c.loop-k.k) ∙ c.if-clashing-k-eq1.true in
+    record {
+      count = c.loop-k.invariant.count;
+      stay = c.loop-k.invariant.stay;
+      sifted = below_more (λ k. IsSiftedBy c.args.positive c.args.system.now.equations c.args.listed.now.rows c.loop-k.shelves.items c.args.i (slice_index_or c.args.others.now k 0)) c.loop-k.k c.loop-k.invariant.sifted
+          (inr (c.requires.clashing c.loop-k.k c.loop-k-test.true bit));
+    }
+
+pub loop-k-preserved-then-is_passed : goal.loop-k-preserved-then-is_passed
+loop-k-preserved-then-is_passed c = record {
+  count = c.loop-k.invariant.count;
+  stay = c.loop-k.invariant.stay;
+  sifted = below_more (λ k. IsSiftedBy c.args.positive c.args.system.now.equations c.args.listed.now.rows c.loop-k.shelves.items c.args.i (slice_index_or c.args.others.now k 0)) c.loop-k.k c.loop-k.invariant.sifted
+      (inr (c.if-is_passed.ensures c.args.system.now.equations refl));
+}
+
+pub is_passed-requires-clause-two : goal.is_passed-requires-clause-two
+is_passed-requires-clause-two c = each_at (λ j. j < _) c.args.others.now c.loop-k.k 0 c.requires.others c.loop-k-test.true
+
+pub loop-k-preserved : goal.loop-k-preserved
+loop-k-preserved c = record {
+  count = c.keep_rows.ensures.count;
+  stay = stay_through _ _ _ c.loop-k.invariant.stay c.keep_rows.ensures.stay;
+  sifted = below_more (λ k. IsSiftedBy c.args.positive c.args.system.now.equations c.args.listed.now.rows c.keep_rows.new.shelves.items c.args.i (slice_index_or c.args.others.now k 0)) c.loop-k.k
+      (λ k l. sifted_stays c.args.positive c.args.system.now.equations c.args.listed.now.rows c.loop-k.shelves.items c.keep_rows.new.shelves.items c.args.i (slice_index_or c.args.others.now k 0) c.keep_rows.ensures.stay (c.loop-k.invariant.sifted k l))
+      (inl c.in_ok-keep_rows.ensures.kept);
+}
+
+pub keep_rows-requires-clause-two : goal.keep_rows-requires-clause-two
+keep_rows-requires-clause-two c = each_at (λ j. j < _) c.args.others.now c.loop-k.k 0 c.requires.others c.loop-k-test.true
