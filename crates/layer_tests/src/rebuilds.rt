@@ -120,10 +120,12 @@ fn close_alike(alloc: Global, one: &mut Stage, other: &mut Stage) -> Result<bool
     let Some(second) = close_next(alloc, other)? else {
         return Ok(false);
     };
-    Ok(first.norm == second.norm
-        && same_rows(&first.rows, &second.rows)
-        && one.used() == other.used()
-        && one.len() == other.len())
+    Ok(
+        first.norm == second.norm
+            && same_rows(&first.rows, &second.rows)
+            && one.used() == other.used()
+            && one.len() == other.len(),
+    )
 }
 
 // After so many norms, how many norms more a rebuilt stage closes as the first one does, and its
@@ -148,7 +150,11 @@ fn goes_on(alloc: Global, norms: u32) -> Result<Option<(u32, u32, u64)>, AllocEr
 #[test]
 fn rebuilt_stages_go_on_alike(rt: HostRuntime) -> Result<(), Fail> {
     for (norms, more) in [(0, 13), (3, 10), (12, 1), (13, 0)] {
-        assert_eq!(rt; goes_on(rt.alloc(), norms)?, Some((more, 48, 256)), "after {norms} norms");
+        assert_eq!(rt;
+            goes_on(rt.alloc(), norms)?,
+            Some((more, 48, 256)),
+            "after {norms} norms"
+        );
     }
     Ok(())
 }
@@ -224,8 +230,16 @@ fn pairs_within_counts_each_pair(rt: HostRuntime) -> Result<(), Fail> {
     let mut number = 3;
     for norms in 1..12_u32 {
         number = next(number);
-        let row = [entry(number >> 52), entry(number >> 40), entry(number >> 28)];
-        assert_eq!(rt; first_difference(rt.alloc(), row, norms)?, None, "of {row:?}");
+        let row = [
+            entry(number >> 52),
+            entry(number >> 40),
+            entry(number >> 28),
+        ];
+        assert_eq!(rt;
+            first_difference(rt.alloc(), row, norms)?,
+            None,
+            "of {row:?}"
+        );
     }
     Ok(())
 }
