@@ -9,7 +9,8 @@ pub mod Merge
 pub mod Publish
 pub mod Merging
 pub mod Signs
-pub mod SignLines
+pub mod LineBits
+pub mod Levels
 pub mod Closing
 pub mod Used
 pub mod Front

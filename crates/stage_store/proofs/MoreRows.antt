@@ -8,18 +8,20 @@ use Rattle.std.proofs.lemmas.List.Elements.{Contains-append_left}
 use Rattle.lift_core.specs.Systems.{LinearSystem}
 use Rattle.lift_core.specs.ToolSystems.{width}
 use Rattle.lift_core.specs.Stages.{stage_norm, has_positive_last, has_negative_last}
-use Rattle.stage_store.specs.declared.clashes.Clashes.{Clashes}
 use Rattle.stage_store.specs.declared.sieve.KeptPair.{KeptPair}
 use Rattle.stage_store.specs.declared.sieve.Table.{Table}
 use Rattle.stage_store.specs.declared.sieve.Sieve.{Sieve}
 use Rattle.stage_store.specs.Classes.{ClassValue, row_at, rows_at, places, with_class}
-use Rattle.stage_store.specs.Clashes.{HasLines, TellsOf}
+use Rattle.stage_store.specs.Levels.{BarsLine, ReachesLine, is_plus}
+use Rattle.stage_store.proofs.Levels.{bars_stay}
 use Rattle.stage_store.specs.Found.{IsSumOf}
-use Rattle.stage_store.specs.Sieve.{IsKept, HasNoNewSum, IsSiftedBy, AreLines, IsTable, AreSifted, AreReaches, IsReachOr, IsSieve, pair_by}
+use Rattle.stage_store.specs.Sieve.{IsKept, HasNoNewSum, IsSiftedBy, IsGroup, IsTable, AreSifted, IsSieveTo, IsSieve, pair_by}
+use Rattle.stage_store.specs.Reaches.{IsReachOr}
+use Rattle.std.proofs.Common.{◌/◌, ◌%◌}
 use Rattle.stage_store.specs.Opened.{AreAscending, AscendWithin}
 use Rattle.stage_store.proofs.Classes.{each_at}
 use Rattle.stage_store.proofs.Publish.{each_snoc}
-use Rattle.stage_store.proofs.Tables.{places_inside, each_cut}
+use Rattle.stage_store.proofs.Tables.{inside_table}
 use Rattle.stage_store.proofs.Reaches.{reach_stays}
 
 -- ---- places ascend
@@ -64,20 +66,25 @@ ids_after test b rows cs new n ids h e is = subst AscendWithin (sym is) (go ids 
 row_stays : (listed new : List (List ℤ)) (i : ℕ) → i < length listed → row_at (listed ++ new) i ≡ row_at listed i
 row_stays listed new i l = get_or_append_left listed new [] i l
 
-rows_stay : (listed new : List (List ℤ)) (ids : List ℕ) → AllByRecursion (λ i. i < length listed) ids → rows_at (listed ++ new) ids ≡ rows_at listed ids
-rows_stay listed new [] h = refl
-rows_stay listed new (i ∷ ids) h = ap₂ (λ (x : List ℤ) (xs : List (List ℤ)). x ∷ xs) (row_stays listed new i h.0) (rows_stay listed new ids h.1)
-
 table_stays : (S : LinearSystem) (listed new : List (List ℤ)) (test : List ℤ → Bool) (n : ℕ) (t : Table) → n ≤ length listed → IsTable S listed test n t → IsTable S (listed ++ new) test n t
 table_stays S listed new test n t l h =
-    let len : length (take n listed) ≡ n = length-take-le n listed l in
-    let inside : AllByRecursion (λ i. i < length listed) t.ids.items = subst (λ ids. AllByRecursion (λ i. i < length listed) ids) (sym h.ids_are) (places_inside test 0 (take n listed) (length listed) (omega (arith, len, l))) in
+    let inside : AllByRecursion (λ i. i < n) t.ids.items = inside_table S listed test n t l h in
+    let same : (k : ℕ) → k < length t.ids.items → row_at (listed ++ new) (get_or t.ids.items k 0) ≡ row_at listed (get_or t.ids.items k 0) =
+    λ k kl. row_stays listed new (get_or t.ids.items k 0) (omega (arith, each_at (λ i. i < n) t.ids.items k 0 inside kl, l)) in
     record {
       ids_are = h.ids_are ∙ ap (places test 0) (sym (take-append-le n listed new l));
-      groups = h.groups;
-      lines = λ a d k.
-          let r : HasLines (width S) (get_or t.lines.items a d) × TellsOf (width S) (rows_at listed (take 64 (drop (64 * a) t.ids.items))) (get_or t.lines.items a d) = h.lines a d k in
-          (r.0, subst (λ rows. TellsOf (width S) rows (get_or t.lines.items a d)) (sym (rows_stay listed new (take 64 (drop (64 * a) t.ids.items)) (each_cut (λ i. i < length listed) 64 (64 * a) t.ids.items inside))) r.1);
+      count = h.count;
+      sized = h.sized;
+      groups = λ a d k.
+          let g : IsGroup S listed t.ids.items a (get_or t.groups.items a d) = h.groups a d k in
+          record {
+            bars = λ m r ml rl bit.
+                let x = g.bars m r ml rl bit in
+                (x.0, subst (λ (f : List ℤ). BarsLine S (listed ++ new) f m) (sym (same (64 * a + r) x.0)) (bars_stay S listed new (row_at listed (get_or t.ids.items (64 * a + r) 0)) (m / 8 / 2) (is_plus (m / 8)) (m % 8) x.1));
+            reached = λ m r ml rl bit.
+                let x = g.reached m r ml rl bit in
+                (x.0, subst (λ (f : List ℤ). ReachesLine f m) (sym (same (64 * a + r) x.0)) x.1);
+          };
     }
 
 none_stays : (S : LinearSystem) (listed new : List (List ℤ)) (i j : ℕ) → i < length listed → j < length listed → HasNoNewSum S listed i j → HasNoNewSum S (listed ++ new) i j
@@ -98,15 +105,19 @@ sifted_stays_on S listed new d e n shelves up within h = λ i j il jl p m above.
     ]
 
 pub sieve_after : (S : LinearSystem) (listed new : List (List ℤ)) (d e : ℕ) (v : Sieve) → d ≤ e → IsSieve S listed d v → IsSieve S (listed ++ new) e v
-sieve_after S listed new d e v up h = record {
-  within = omega (arith, h.within, length-append listed new);
-  plus_table = table_stays S listed new has_positive_last v.rows v.plus h.within h.plus_table;
-  minus_table = table_stays S listed new has_negative_last v.rows v.minus h.within h.minus_table;
-  shelves_are = h.shelves_are;
-  reach_count = h.reach_count;
-  reaches_are = λ k l. subst (λ (row : List ℤ). IsReachOr (listed ++ new) row (get_or v.reaches.items k 0)) (sym (row_stays listed new k (omega (arith, l, h.reach_count, h.within)))) (reach_stays listed new (row_at listed k) (get_or v.reaches.items k 0) (h.reaches_are k l));
-  sifted = sifted_stays_on S listed new d e v.rows v.shelves.items up h.within h.sifted;
-}
+sieve_after S listed new d e v up h =
+    let u : IsSieveTo S listed d v.rows v = h.upto in
+    record {
+      within = omega (arith, h.within, length-append listed new);
+      upto = record {
+        plus_table = table_stays S listed new has_positive_last v.rows v.plus h.within u.plus_table;
+        minus_table = table_stays S listed new has_negative_last v.rows v.minus h.within u.minus_table;
+        shelves_are = u.shelves_are;
+        reach_count = u.reach_count;
+        reaches_are = λ k l. subst (λ (row : List ℤ). IsReachOr (listed ++ new) row (get_or v.reaches.items k 0)) (sym (row_stays listed new k (omega (arith, l, u.reach_count, h.within)))) (reach_stays listed new (row_at listed k) (get_or v.reaches.items k 0) (u.reaches_are k l));
+        sifted = sifted_stays_on S listed new d e v.rows v.shelves.items up h.within u.sifted;
+      };
+    }
 
 -- a flag that is not set
 pub unknown : (b : Bool) → b ≡ false → IsTrue b → ⊥

@@ -233,7 +233,7 @@ module _ (s : StageValue) (plus minus : List ClassValue) (e : ℕ) (p : AreClass
           let at : IsPairAt s.listed e n (get_or (ids_of plus minus e) n (0, 0)).0 (get_or (ids_of plus minus e) n (0, 0)).1 = pair_found s.listed plus minus e n (get_or (ids_of plus minus e) n (0, 0)) p m inside refl in
           let w = pair_of_places (get_or (ids_of plus minus e) n (0, 0)) c in
           let t : IsSumOf s.system.equations s.listed (row_at s.listed (get_or (ids_of plus minus e) n (0, 0)).0) (row_at s.listed (get_or (ids_of plus minus e) n (0, 0)).1) z = subst (λ (y : List ℤ × List ℤ). IsSumOf s.system.equations s.listed y.0 y.1 z) at.pair sum in
-          elim (sieve.sifted (get_or (ids_of plus minus e) n (0, 0)).0 (get_or (ids_of plus minus e) n (0, 0)).1 (omega (arith, at.one, rows)) (omega (arith, at.two, rows)) (less_is (pos 0) (last (row_at s.listed (get_or (ids_of plus minus e) n (0, 0)).0)) w.0.above) (less_is (last (row_at s.listed (get_or (ids_of plus minus e) n (0, 0)).1)) (pos 0) w.0.under) (omega (arith, w.1, above))) [
+          elim (sieve.upto.sifted (get_or (ids_of plus minus e) n (0, 0)).0 (get_or (ids_of plus minus e) n (0, 0)).1 (omega (arith, at.one, rows)) (omega (arith, at.two, rows)) (less_is (pos 0) (last (row_at s.listed (get_or (ids_of plus minus e) n (0, 0)).0)) w.0.above) (less_is (last (row_at s.listed (get_or (ids_of plus minus e) n (0, 0)).1)) (pos 0) w.0.under) (omega (arith, w.1, above))) [
             | inl k ↦ kept_number n (get_or (ids_of plus minus e) n (0, 0)).0 (get_or (ids_of plus minus e) n (0, 0)).1 at inside w.1 c k
             | inr none ↦ absurd (none z t)
           ];

@@ -13,7 +13,8 @@ use Rattle.lift_core.specs.Systems.{LinearSystem}
 use Rattle.lift_core.specs.Stages.{front, last}
 use Rattle.stage_store.specs.Classes.{row_at}
 use Rattle.stage_store.specs.Found.{IsReduced, IsSumOf}
-use Rattle.stage_store.specs.Sieve.{entry_against, with_reach, IsReachOr, AreReaches, AreFarApart, HasNoNewSum}
+use Rattle.stage_store.specs.Reaches.{entry_against, with_reach, IsReachOr, AreReaches, AreFarApart}
+use Rattle.stage_store.specs.Sieve.{HasNoNewSum}
 use Rattle.std.proofs.Common.{subst₂, Option, Some, None}
 use Rattle.std.proofs.lemmas.List.Elements.{Contains-get_or}
 use Rattle.lift_core.specs.Inside.PairSums.{IsIrreducible}
@@ -32,7 +33,7 @@ within_sum x a h = grind (arith, ints)
 within_other : (x a : ℤ) → pos 0 ≤ℤ (x *ℤ a) → IsWithin a (x +ℤ a)
 within_other x a h = grind (arith, ints)
 
-first_below : (f g : List ℤ) (r : ℕ) → length f ≡ length g → AreConformal (front f) (front g) → IsWithin (entry_against (last f) r) (last f +ℤ last g) → with_reach f r ⊑ add f g
+pub first_below : (f g : List ℤ) (r : ℕ) → length f ≡ length g → AreConformal (front f) (front g) → IsWithin (entry_against (last f) r) (last f +ℤ last g) → with_reach f r ⊑ add f g
 first_below [] g r n h w = tt
 first_below (x ∷ f) [] r n h w = absurd (omega arith)
 first_below (x ∷ []) (a ∷ []) r n h w = (w, tt)
@@ -40,7 +41,7 @@ first_below (x ∷ []) (a ∷ b ∷ g) r n h w = absurd (omega arith)
 first_below (x ∷ y ∷ f) (a ∷ []) r n h w = absurd (omega arith)
 first_below (x ∷ y ∷ f) (a ∷ b ∷ g) r n h w = (within_sum x a h.0, first_below (y ∷ f) (b ∷ g) r (omega arith) h.1 w)
 
-second_below : (f g : List ℤ) (r : ℕ) → length f ≡ length g → AreConformal (front f) (front g) → IsWithin (entry_against (last g) r) (last f +ℤ last g) → with_reach g r ⊑ add f g
+pub second_below : (f g : List ℤ) (r : ℕ) → length f ≡ length g → AreConformal (front f) (front g) → IsWithin (entry_against (last g) r) (last f +ℤ last g) → with_reach g r ⊑ add f g
 second_below [] [] r n h w = tt
 second_below [] (a ∷ g) r n h w = absurd (omega arith)
 second_below (x ∷ f) [] r n h w = absurd (omega arith)
@@ -113,3 +114,7 @@ found_reduces result tree listed z h found = go result (find_result result tree 
     go : (r : Option RowId) → MatchOption r (IsIrreducible listed.rows z) (λ id. (id.0 < length listed.rows) × (get_or listed.rows id.0 [] ⊑ z)) → IfSome r (λ id. (id.0 < length listed.rows) × IsReduced listed.rows z)
     go None k = tt
     go (Some id) k = (k.0, (get_or listed.rows id.0 [], Contains-get_or listed.rows id.0 [] k.0, k.1))
+
+-- a listed row that is below the row with a reach shows it
+pub shown : (listed : List (List ℤ)) (u row : List ℤ) (r : ℕ) → Contains listed u → u ⊑ with_reach row r → IsReachOr listed row r
+shown listed u row r c b = λ p. (u, c, b)

@@ -13,12 +13,13 @@ use Rattle.lift_core.specs.Systems.{LinearSystem}
 use Rattle.lift_core.specs.Inside.PairSums.{HasSum}
 use Rattle.lift_core.specs.Stages.{has_positive_last, has_negative_last, stage_norm}
 use Rattle.lift_core.proofs.Stages.{front-take}
-use Rattle.stage_store.specs.declared.clashes.Clashes.{Clashes}
+use Rattle.stage_store.specs.declared.sieve.Group.{Group}
+use Rattle.stage_store.specs.declared.sieve.Room.{Room}
+use Rattle.lift_core.specs.ToolSystems.{width}
+use Rattle.stage_store.specs.Levels.{MakesNone}
 use Rattle.stage_store.specs.Classes.{row_at, rows_at, places}
-use Rattle.stage_store.specs.Clashes.{HasLines, TellsOf, TellClashes}
-use Rattle.stage_store.specs.Signs.{Opposes, entry_at}
 use Rattle.stage_store.specs.declared.sieve.Sieve.{Sieve}
-use Rattle.stage_store.specs.Sieve.{AreSifted, IsSieve, IsNewSieve, IsKept, Stay, HasNoNewSumBy, IsSiftedBy, AreSiftedBy, AreSiftedFrom, AreWide, AreLines, pair_by}
+use Rattle.stage_store.specs.Sieve.{AreSifted, IsSieve, IsNewSieve, IsKept, Stay, HasNoNewSumBy, IsSiftedBy, AreSiftedBy, AreWide, IsGroup, IsSized, IsDead, AreAsked, pair_by}
 use Rattle.stage_store.proofs.Tables.{has_place, no_table}
 use Rattle.stage_store.proofs.Classes.{each_at}
 use Rattle.stage_store.specs.declared.sieve.KeptPair.{KeptPair}
@@ -30,56 +31,40 @@ module _ (positive : Bool) (S : LinearSystem) (listed : List (List ℤ)) where
   pub sifted_stays : (old new : List (List KeptPair)) (i j : ℕ) → Stay old new → IsSiftedBy positive S listed old i j → IsSiftedBy positive S listed new i j
   sifted_stays old new i j h s = elim s [ inl k ↦ inl (h (pair_by positive _ i j) k) | inr n ↦ inr n ]
 
--- ---- rows with opposite signs in a column
-turned : (x y : ℤ) → (x *ℤ y) ≡ (y *ℤ x)
-turned x y = grind (arith, ints)
+-- ---- rows that bar what another reaches
+module _ (positive : Bool) (S : LinearSystem) (listed : List (List ℤ)) (i j : ℕ) where
+  pub none_made : MakesNone S listed (row_at listed i) (row_at listed j) → HasNoNewSumBy positive S listed i j
+  none_made m = by_sign positive
+    where
+      by_sign : (b : Bool) → HasNoNewSumBy b S listed i j
+      by_sign true = λ z s. m.as_first z s
+      by_sign false = λ z s. m.as_second z s
 
-not_both : (p : ℤ) → pos 0 ≤ℤ p → p <ℤ pos 0 → ⊥
-not_both p a b = absurd (omega (arith, ints, a, b))
+  pub none_made_turned : MakesNone S listed (row_at listed j) (row_at listed i) → HasNoNewSumBy positive S listed i j
+  none_made_turned m = by_sign positive
+    where
+      by_sign : (b : Bool) → HasNoNewSumBy b S listed i j
+      by_sign true = λ z s. m.as_second z s
+      by_sign false = λ z s. m.as_first z s
 
--- two rows with opposite signs in a column have no sum
-no_sum : (S : LinearSystem) (u v first : List ℤ) (w column : ℕ) → length u ≡ w + 1 → length v ≡ w + 1 → first ≡ take w u → column < w → Opposes (get_or first column (pos 0)) (get_or v column (pos 0)) → HasSum S u v → ⊥
-no_sum S u v first w column n m e l against sum =
-    let a : AreConformal (take w u) (take w v) = subst₂ (λ (x y : List ℤ). AreConformal x y) (front-take u w n) (front-take v w m) sum.conformal in
-    let x : get_or first column (pos 0) ≡ get_or (take w u) column (pos 0) = ap (λ (r : List ℤ). get_or r column (pos 0)) e in
-    let y : get_or (take w v) column (pos 0) ≡ get_or v column (pos 0) = get_or-take w v column (pos 0) l in
-    let inside : column < length (take w u) = omega (arith, length-take-le w u (omega (arith, n))) in
-    let p : pos 0 ≤ℤ (get_or (take w u) column (pos 0) *ℤ get_or (take w v) column (pos 0)) = AllZip-get_or (λ s t. pos 0 ≤ℤ (s *ℤ t)) (take w u) (take w v) column (pos 0) (pos 0) a inside in
-    not_both (get_or (take w u) column (pos 0) *ℤ get_or (take w v) column (pos 0)) p (subst₂ (λ (s t : ℤ). (s *ℤ t) <ℤ pos 0) x (sym y) against)
-
--- two rows with opposite signs in a column have no sum, in either order
-pub opposed : (S : LinearSystem) (u v first : List ℤ) (w column : ℕ) → length u ≡ w + 1 → length v ≡ w + 1 → first ≡ take w u → column < w → Opposes (get_or first column (pos 0)) (get_or v column (pos 0)) → (HasSum S u v → ⊥) × (HasSum S v u → ⊥)
-opposed S u v first w column n m e l against = (
-  no_sum S u v first w column n m e l against,
-  λ sum.
-      let a : AreConformal (take w v) (take w u) = subst₂ (λ (x y : List ℤ). AreConformal x y) (front-take v w m) (front-take u w n) sum.conformal in
-      let x : get_or first column (pos 0) ≡ get_or (take w u) column (pos 0) = ap (λ (r : List ℤ). get_or r column (pos 0)) e in
-      let y : get_or (take w v) column (pos 0) ≡ get_or v column (pos 0) = get_or-take w v column (pos 0) l in
-      let inside : column < length (take w v) = omega (arith, length-take-le w v (omega (arith, m))) in
-      let p : pos 0 ≤ℤ (get_or (take w v) column (pos 0) *ℤ get_or (take w u) column (pos 0)) = AllZip-get_or (λ s t. pos 0 ≤ℤ (s *ℤ t)) (take w v) (take w u) column (pos 0) (pos 0) a inside in
-      not_both (get_or (take w v) column (pos 0) *ℤ get_or (take w u) column (pos 0)) p
-      (subst (λ (z : ℤ). z <ℤ pos 0) (turned (get_or (take w u) column (pos 0)) (get_or (take w v) column (pos 0)))
-      (subst₂ (λ (s t : ℤ). (s *ℤ t) <ℤ pos 0) x (sym y) against)),
-)
-
-no_new : (positive : Bool) (S : LinearSystem) (listed : List (List ℤ)) (i j : ℕ) → (HasSum S (row_at listed i) (row_at listed j) → ⊥) × (HasSum S (row_at listed j) (row_at listed i) → ⊥) → HasNoNewSumBy positive S listed i j
-no_new true S listed i j h = λ z s. h.0 s.sum
-no_new false S listed i j h = λ z s. h.1 s.sum
-
--- what a word of bits tells of a group
-pub group_has_none : (positive : Bool) (S : LinearSystem) (listed : List (List ℤ)) (i w bits : ℕ) (part : List ℕ) (first : List ℤ) → AreWide (w + 1) listed → i < length listed → AllByRecursion (λ j. j < length listed) part → length part ≤ 64
-    → first ≡ take w (row_at listed i) → TellClashes w (rows_at listed part) 0 first bits → (k : ℕ) → k < length part → bit_at bits k ≡ 1 → HasNoNewSumBy positive S listed i (get_or part k 0)
-group_has_none positive S listed i w bits part first wide il inside few e tells k l set_ =
-    let j : ℕ = get_or part k 0 in
-    let jl : get_or part k 0 < length listed = each_at (λ j. j < length listed) part k 0 inside l in
-    let rows : length (rows_at listed part) ≡ length part = length-map part (λ j. row_at listed j) in
-    let small : k < 64 = omega (arith, l, few) in
-    let rest : k ≡ k % 64 = omega (arith, small) in
-    let c : (column : ℕ) × (column < w) × Opposes (get_or first column (pos 0)) (entry_at (rows_at listed part) k column) = tells k (omega (arith, rows, l)) (omega (arith, small)) (subst (λ m. bit_at bits m ≡ 1) rest set_) in
-    let there : get_or (rows_at listed part) k [] ≡ row_at listed (get_or part k 0) = get_or-map (λ j. row_at listed j) part k 0 [] l in
-    no_new positive S listed i (get_or part k 0)
-    (opposed S (row_at listed i) (row_at listed (get_or part k 0)) first w c.0 (each_at (λ z. length z ≡ w + 1) listed i [] wide il) (each_at (λ z. length z ≡ w + 1) listed (get_or part k 0) [] wide jl) e c.1
-    (subst (λ (r : List ℤ). Opposes (get_or first c.0 (pos 0)) (get_or r c.0 (pos 0))) there c.2))
+-- what the lines of a group tell of its rows and of the one that they are read for
+pub group_has_none : (positive : Bool) (S : LinearSystem) (listed : List (List ℤ)) (i a bits : ℕ) (ids part : List ℕ) (g : Group) (r : Room) → AreWide (width S + 1) listed → i < length listed → AllByRecursion (λ j. j < length listed) ids
+    → IsSized (16 * width S) g → IsGroup S listed ids a g → AreAsked S listed (row_at listed i) r → IsDead g r.bar_reads.items r.reach_reads.items bits → length part ≤ 64 → ((k : ℕ) → k < length part → get_or part k 0 ≡ get_or ids (64 * a + k) 0)
+    → (k : ℕ) → k < length part → bit_at bits k ≡ 1 → HasNoNewSumBy positive S listed i (get_or part k 0)
+group_has_none positive S listed i a bits ids part g r wide il inside sized group asked dead few at k l bit = elim (dead k (omega (arith, l, few)) bit) [
+  | inl x ↦
+      let m : ℕ = get_or r.bar_reads.items x.0 0 in
+      let q = asked.bar_reads x.0 x.1 in
+      let t = group.bars m k (omega (arith, q.0, sized.bars_count)) (omega (arith, l, few)) x.2 in
+      let n : length (row_at listed i) ≡ length (row_at listed (get_or ids (64 * a + k) 0)) = each_at (λ z. length z ≡ width S + 1) listed i [] wide il ∙ sym (each_at (λ z. length z ≡ width S + 1) listed (get_or ids (64 * a + k) 0) [] wide (each_at (λ j. j < length listed) ids (64 * a + k) 0 inside t.0)) in
+      subst (λ j. HasNoNewSumBy positive S listed i j) (sym (at k l)) (none_made_turned positive S listed i (get_or ids (64 * a + k) 0) (t.1 (row_at listed i) n q.1))
+  | inr x ↦
+      let m : ℕ = get_or r.reach_reads.items x.0 0 in
+      let q = asked.reach_reads x.0 x.1 in
+      let t = group.reached m k (omega (arith, q.0, sized.reached_count)) (omega (arith, l, few)) x.2 in
+      let n : length (row_at listed (get_or ids (64 * a + k) 0)) ≡ length (row_at listed i) = each_at (λ z. length z ≡ width S + 1) listed (get_or ids (64 * a + k) 0) [] wide (each_at (λ j. j < length listed) ids (64 * a + k) 0 inside t.0) ∙ sym (each_at (λ z. length z ≡ width S + 1) listed i [] wide il) in
+      subst (λ j. HasNoNewSumBy positive S listed i j) (sym (at k l)) (none_made positive S listed i (get_or ids (64 * a + k) 0) (q.1 (row_at listed (get_or ids (64 * a + k) 0)) n t.1))
+]
 
 -- ---- one group more, one row more
 pub part_at : (n m k : ℕ) (ids : List ℕ) → k < n → get_or (take n (drop m ids)) k 0 ≡ get_or ids (m + k) 0
@@ -98,67 +83,76 @@ group_more positive S listed old new i group to ids stay e before here k l insid
       subst (λ j. IsSiftedBy positive S listed new i j) at (here (k - 64 * group) (omega (arith, len, less)))
 ]
 
-pub row_more : (S : LinearSystem) (listed : List (List ℤ)) (old new : List (List KeptPair)) (from i : ℕ) (plus minus : List ℕ) → Stay old new → AreSiftedFrom S listed old from i plus minus
-    → (has_positive_last (row_at listed i) ≡ true → AreSiftedBy true S listed new i minus) → (has_negative_last (row_at listed i) ≡ true → AreSiftedBy false S listed new i plus) → AreSiftedFrom S listed new from (i + 1) plus minus
-row_more S listed old new from i plus minus stay h a b = record {
-  above = λ r f l p. elim (cases_eq r i) [
-    | inl same ↦ subst (λ n. AreSiftedBy true S listed new n minus) (sym same) (a (subst (λ n. has_positive_last (row_at listed n) ≡ true) same p))
-    | inr d ↦ λ k kl. sifted_stays true S listed old new r (get_or minus k 0) stay (h.above r f (omega (arith, l, d)) p k kl)
-  ];
-  under = λ r f l p. elim (cases_eq r i) [
-    | inl same ↦ subst (λ n. AreSiftedBy false S listed new n plus) (sym same) (b (subst (λ n. has_negative_last (row_at listed n) ≡ true) same p))
-    | inr d ↦ λ k kl. sifted_stays false S listed old new r (get_or plus k 0) stay (h.under r f (omega (arith, l, d)) p k kl)
-  ];
-}
+-- ---- one row more
+module _ (S : LinearSystem) (listed : List (List ℤ)) (d i : ℕ) (old new : List (List KeptPair)) (stay : Stay old new) (inside : i < length listed) (before : AreSifted S listed d i old) where
+  -- the place of an earlier row
+  place_before : (test : List ℤ → Bool) (j : ℕ) → j < i → test (row_at listed j) ≡ true → (k : ℕ) × (k < length (places test 0 (take i listed))) × (get_or (places test 0 (take i listed)) k 0 ≡ 0 + j)
+  place_before test j l t =
+      let same : get_or (take i listed) j [] ≡ row_at listed j = get_or-take i listed j [] l in
+      has_place test 0 (take i listed) j (omega (arith, length-take-le i listed (omega (arith, inside)), l)) (ap test same ∙ t)
 
--- a group has one word
-pub one_word : (w : ℕ) (listed : List (List ℤ)) (ids : List ℕ) (lines : List Clashes) (group : ℕ) (c : Clashes) → AreLines w listed ids lines → length lines ≡ (length ids + 63) / 64 → group < length lines → c ≡ get_or lines group c
-    → HasLines w c × TellsOf w (rows_at listed (take 64 (drop (64 * group) ids))) c × (c.words ≡ 1)
-one_word w listed ids lines group c h n l is =
-    let r : HasLines w (get_or lines group c) × TellsOf w (rows_at listed (take 64 (drop (64 * group) ids))) (get_or lines group c) = h group c l in
-    let t : TellsOf w (rows_at listed (take 64 (drop (64 * group) ids))) c = subst (TellsOf w (rows_at listed (take 64 (drop (64 * group) ids)))) (sym is) r.1 in
-    let some : 0 < length (take 64 (drop (64 * group) ids)) = omega (arith, length-take 64 (drop (64 * group) ids), length-drop (64 * group) ids, n, l) in
-    let few : length (take 64 (drop (64 * group) ids)) ≤ 64 = omega (arith, length-take 64 (drop (64 * group) ids)) in
-    let rows : length (rows_at listed (take 64 (drop (64 * group) ids))) ≡ length (take 64 (drop (64 * group) ids)) = length-map (take 64 (drop (64 * group) ids)) (λ j. row_at listed j) in
-    (subst (HasLines w) (sym is) r.0, t, t.words_are ∙ omega (arith, some, few, rows))
-
--- ---- all rows sifted
-module _ (S : LinearSystem) (listed : List (List ℤ)) (d n : ℕ) (old new : List (List KeptPair)) (stay : Stay old new) (within : n ≤ length listed) (before : AreSifted S listed d n old)
-    (here : AreSiftedFrom S listed new n (length listed) (places has_positive_last 0 (take n listed)) (places has_negative_last 0 listed)) where
-  by_first : (i j : ℕ) → n ≤ i → i < length listed → j < length listed → has_positive_last (row_at listed i) ≡ true → has_negative_last (row_at listed j) ≡ true → IsSiftedBy true S listed new i j
-  by_first i j f il jl p m =
-      let k : (k : ℕ) × (k < length (places has_negative_last 0 listed)) × (get_or (places has_negative_last 0 listed) k 0 ≡ 0 + j) = has_place has_negative_last 0 listed j jl m in
-      subst (λ x. IsSiftedBy true S listed new i x) (k.2 ∙ omega arith) (here.above i f il p k.0 k.1)
-
-  by_second : (i j : ℕ) → i < n → n ≤ j → j < length listed → has_positive_last (row_at listed i) ≡ true → has_negative_last (row_at listed j) ≡ true → IsSiftedBy true S listed new i j
-  by_second i j l f jl p m =
-      let same : get_or (take n listed) i [] ≡ row_at listed i = get_or-take n listed i [] l in
-      let len : length (take n listed) ≡ n = length-take-le n listed within in
-      let k : (k : ℕ) × (k < length (places has_positive_last 0 (take n listed))) × (get_or (places has_positive_last 0 (take n listed)) k 0 ≡ 0 + i) = has_place has_positive_last 0 (take n listed) i (omega (arith, len, l)) (ap has_positive_last same ∙ p) in
-      turn_round (subst (λ x. IsSiftedBy false S listed new j x) (k.2 ∙ omega arith) (here.under j f jl m k.0 k.1))
-    where
-      turn_round : IsSiftedBy false S listed new j i → IsSiftedBy true S listed new i j
-      turn_round s = elim s [
-        | inl k ↦ inl (subst (λ m. IsKept new (pair_by true m i j)) (omega arith) k)
-        | inr h ↦ inr h
-      ]
-
-  pub all_sifted : AreSifted S listed d (length listed) new
-  all_sifted = λ i j il jl p m above. elim (cases_lt i n) [
-    | inl l ↦ elim (cases_lt j n) [
-      | inl k ↦ sifted_stays true S listed old new i j stay (before i j l k p m above)
-      | inr k ↦ by_second i j l k jl p m
-    ]
-    | inr l ↦ by_first i j l il jl p m
+  turn_round : (j : ℕ) → IsSiftedBy false S listed new i j → IsSiftedBy true S listed new j i
+  turn_round j s = elim s [
+    | inl k ↦ inl (subst (λ m. IsKept new (pair_by true m j i)) (omega arith) k)
+    | inr h ↦ inr h
   ]
+
+  pub sifted_above : has_negative_last (row_at listed i) ≡ false → AreSiftedBy true S listed new i (places has_negative_last 0 (take i listed)) → AreSifted S listed d (i + 1) new
+  sifted_above sign here = λ x y xl yl p m up. elim (cases_eq y i) [
+    | inl e ↦ absurd (not_both (has_negative_last (row_at listed i)) sign (subst (λ n. has_negative_last (row_at listed n) ≡ true) e m))
+    | inr f ↦ elim (cases_eq x i) [
+      | inl e ↦
+          let k = place_before has_negative_last y (omega (arith, yl, f)) m in
+          subst₂ (λ (n o : ℕ). IsSiftedBy true S listed new n o) (sym e) (k.2 ∙ omega arith) (here k.0 k.1)
+      | inr e ↦ sifted_stays true S listed old new x y stay (before x y (omega (arith, xl, e)) (omega (arith, yl, f)) p m up)
+    ]
+  ]
+    where
+      not_both : (b : Bool) → b ≡ false → b ≡ true → ⊥
+      not_both b e f = let g : true ≡ false = sym f ∙ e in cc
+
+  pub sifted_under : has_positive_last (row_at listed i) ≡ false → AreSiftedBy false S listed new i (places has_positive_last 0 (take i listed)) → AreSifted S listed d (i + 1) new
+  sifted_under sign here = λ x y xl yl p m up. elim (cases_eq x i) [
+    | inl e ↦ absurd (not_both (has_positive_last (row_at listed i)) sign (subst (λ n. has_positive_last (row_at listed n) ≡ true) e p))
+    | inr f ↦ elim (cases_eq y i) [
+      | inl e ↦
+          let k = place_before has_positive_last x (omega (arith, xl, f)) p in
+          subst (λ n. IsSiftedBy true S listed new x n) (sym e) (turn_round x (subst (λ n. IsSiftedBy false S listed new i n) (k.2 ∙ omega arith) (here k.0 k.1)))
+      | inr e ↦ sifted_stays true S listed old new x y stay (before x y (omega (arith, xl, f)) (omega (arith, yl, e)) p m up)
+    ]
+  ]
+    where
+      not_both : (b : Bool) → b ≡ false → b ≡ true → ⊥
+      not_both b e f = let g : true ≡ false = sym f ∙ e in cc
+
+  pub sifted_neither : has_positive_last (row_at listed i) ≡ false → has_negative_last (row_at listed i) ≡ false → AreSifted S listed d (i + 1) new
+  sifted_neither above under = λ x y xl yl p m up. elim (cases_eq x i) [
+    | inl e ↦ absurd (not_both (has_positive_last (row_at listed i)) above (subst (λ n. has_positive_last (row_at listed n) ≡ true) e p))
+    | inr f ↦ elim (cases_eq y i) [
+      | inl e ↦ absurd (not_both (has_negative_last (row_at listed i)) under (subst (λ n. has_negative_last (row_at listed n) ≡ true) e m))
+      | inr e ↦ sifted_stays true S listed old new x y stay (before x y (omega (arith, xl, f)) (omega (arith, yl, e)) p m up)
+    ]
+  ]
+    where
+      not_both : (b : Bool) → b ≡ false → b ≡ true → ⊥
+      not_both b e f = let g : true ≡ false = sym f ∙ e in cc
+
+-- one sign alone
+pub not_negative : (z : List ℤ) → has_positive_last z ≡ true → has_negative_last z ≡ false
+not_negative z p = grind (arith, ints)
+
+pub not_positive : (z : List ℤ) → has_negative_last z ≡ true → has_positive_last z ≡ false
+not_positive z p = grind (arith, ints)
 
 pub new_sieve : (S : LinearSystem) (listed : List (List ℤ)) (d : ℕ) (v : Sieve) → IsNewSieve v → IsSieve S listed d v
 new_sieve S listed d v h = record {
   within = omega (arith, h.none);
-  plus_table = no_table S listed has_positive_last v.rows v.plus h.none h.plus_ids h.plus_lines;
-  minus_table = no_table S listed has_negative_last v.rows v.minus h.none h.minus_ids h.minus_lines;
-  shelves_are = h.shelves_are;
-  reach_count = omega (arith, ap length h.no_reaches, h.none);
-  reaches_are = λ k l. absurd (omega (arith, ap length h.no_reaches, l));
-  sifted = λ i j l. absurd (omega (arith, h.none, l));
+  upto = record {
+    plus_table = no_table S listed has_positive_last v.rows v.plus h.none h.plus_ids h.plus_groups;
+    minus_table = no_table S listed has_negative_last v.rows v.minus h.none h.minus_ids h.minus_groups;
+    shelves_are = h.shelves_are;
+    reach_count = omega (arith, ap length h.no_reaches, h.none);
+    reaches_are = λ k l. absurd (omega (arith, ap length h.no_reaches, l));
+    sifted = λ i j l. absurd (omega (arith, h.none, l));
+  };
 }

@@ -4,15 +4,18 @@ use Rattle.std.specs.Prelude.{ℤ, map, Result, Ok, Err, OnOk}
 use Rattle.std.specs.List.{AllByRecursion, Contains}
 use Rattle.std.proofs.lemmas.Bool.{cases_Bool, cases_lt, cases_eq}
 use Rattle.std.proofs.lemmas.List.{take_more, take_all, append-nil, length-take-le, get_or_append_left, get_or-append-add}
-use Rattle.stage_store.specs.declared.clashes.Clashes.{Clashes}
+use Rattle.stage_store.specs.declared.sieve.Group.{Group}
+use Rattle.stage_store.specs.Levels.{BarsLine, ReachesLine}
+use Rattle.stage_store.proofs.LineBits.{tell_stays}
+use Rattle.std.proofs.lemmas.List.{get_or-set_other, length-set}
+use Rattle.std.proofs.lemmas.Grind.{get_or-set_at}
 use Rattle.stage_store.specs.Classes.{row_at, rows_at, places}
-use Rattle.stage_store.specs.Clashes.{HasLines, TellsOf}
 use Rattle.std.proofs.Common.{◌^◌, get_or-take}
 use Rattle.std.proofs.lemmas.List.{take-append-drop, take-append-le}
 use Rattle.lift_core.specs.Systems.{LinearSystem}
 use Rattle.lift_core.specs.ToolSystems.{width}
 use Rattle.stage_store.specs.declared.sieve.Table.{Table}
-use Rattle.stage_store.specs.Sieve.{AreLines, IsFullTable, IsTable}
+use Rattle.stage_store.specs.Sieve.{IsGroup, AreGroups, IsSized, AreSized, IsTable}
 
 module _ (test : List ℤ → Bool) where
   pub places_append : (b : ℕ) (xs ys : List (List ℤ)) → places test b (xs ++ ys) ≡ places test b xs ++ places test (b + length xs) ys
@@ -64,22 +67,6 @@ group_part ids group to l e = elim (cases_lt (length ids) (64 * group + 64)) [
   | inr s ↦ let n : to - 64 * group ≡ 64 = omega (arith, e, s) in ap (λ m. take m (drop (64 * group) ids)) n
 ]
 
-pub more_lines : (w : ℕ) (listed : List (List ℤ)) (ids part : List ℕ) (lines new : List Clashes) (c : Clashes) (group : ℕ) → length lines ≡ group → AreLines w listed ids lines → new ≡ lines ++ (c ∷ []) → part ≡ take 64 (drop (64 * group) ids)
-    → HasLines w c → TellsOf w (rows_at listed part) c → AreLines w listed ids new
-more_lines w listed ids part lines new c group n h is p has tells = λ a d l.
-    let len : length new ≡ group + 1 = ap length is ∙ length-append lines (c ∷ []) ∙ omega (arith, n) in
-    elim (cases_lt a group) [
-      | inl s ↦
-          let e : get_or new a d ≡ get_or lines a d = ap (λ x. get_or x a d) is ∙ get_or_append_left lines (c ∷ []) d a (omega (arith, n, s)) in
-          let r : HasLines w (get_or lines a d) × TellsOf w (rows_at listed (take 64 (drop (64 * a) ids))) (get_or lines a d) = h a d (omega (arith, n, s)) in
-          (subst (HasLines w) (sym e) r.0, subst (TellsOf w (rows_at listed (take 64 (drop (64 * a) ids)))) (sym e) r.1)
-      | inr s ↦
-          let at : a ≡ length lines + 0 = omega (arith, len, l, s, n) in
-          let e : get_or new a d ≡ c = ap (λ x. get_or x a d) is ∙ ap (λ m. get_or (lines ++ (c ∷ [])) m d) at ∙ get_or-append-add lines (c ∷ []) 0 d in
-          let q : part ≡ take 64 (drop (64 * a) ids) = p ∙ ap (λ m. take 64 (drop (64 * m) ids)) (omega (arith, at, n)) in
-          (subst (HasLines w) (sym e) has, subst₂ (λ (x : List ℕ) (y : Clashes). TellsOf w (rows_at listed x) y) q (sym e) tells)
-    ]
-
 each_taken : {A : Type 0} (P : A → Type 0) (n : ℕ) (xs : List A) → AllByRecursion P xs → AllByRecursion P (take n xs)
 each_taken P zero xs h = tt
 each_taken P (suc n) [] h = tt
@@ -103,51 +90,79 @@ places_grow test n rows l =
     let e : 0 + length (take n rows) ≡ n = omega (arith, length-take-le n rows l) in
     ap (places test 0) (sym (take-append-drop n rows)) ∙ places_append test 0 (take n rows) (drop n rows) ∙ ap (λ m. places test 0 (take n rows) ++ places test m (drop n rows)) e
 
-cut_grown : (n m : ℕ) (ids more : List ℕ) → m + n ≤ length ids → take n (drop m (ids ++ more)) ≡ take n (drop m ids)
-cut_grown n zero ids more l = take-append-le n ids more (omega (arith, l))
-cut_grown n (suc m) [] more l = absurd (omega (arith, l))
-cut_grown n (suc m) (x ∷ ids) more l = cut_grown n m ids more (omega (arith, l))
-
--- the lines of the whole groups stay
-pub whole_groups : (w : ℕ) (listed : List (List ℤ)) (ids more all : List ℕ) (lines kept : List Clashes) → AreLines w listed ids lines → length lines ≡ (length ids + 63) / 64 → all ≡ ids ++ more → kept ≡ take (length ids / 64) lines
-    → AreLines w listed all kept × (length kept ≡ length ids / 64)
-whole_groups w listed ids more all lines kept h n is e =
-    let len : length kept ≡ length ids / 64 = ap length e ∙ length-take-le (length ids / 64) lines (omega (arith, n)) in (
-      λ a d l.
-          let whole : 64 * a + 64 ≤ length ids = omega (arith, l, len) in
-          let at : get_or kept a d ≡ get_or lines a d = ap (λ x. get_or x a d) e ∙ get_or-take (length ids / 64) lines a d (omega (arith, l, len)) in
-          let part : take 64 (drop (64 * a) all) ≡ take 64 (drop (64 * a) ids) = ap (λ x. take 64 (drop (64 * a) x)) is ∙ cut_grown 64 (64 * a) ids more whole in
-          let r : HasLines w (get_or lines a d) × TellsOf w (rows_at listed (take 64 (drop (64 * a) ids))) (get_or lines a d) = h a d (omega (arith, n, whole)) in
-          (subst (HasLines w) (sym at) r.0, subst₂ (λ (x : List ℕ) (y : Clashes). TellsOf w (rows_at listed x) y) (sym part) (sym at) r.1),
-      len,
-    )
-
 -- ---- tables
-pub full_table : (S : LinearSystem) (listed : List (List ℤ)) (test : List ℤ → Bool) (n : ℕ) (t : Table) → n ≤ length listed → length listed ≤ 2 ^ 21 → IsTable S listed test n t → IsFullTable S listed t
-full_table S listed test n t l few h =
-    let len : length (take n listed) ≡ n = length-take-le n listed l in
-    record {
-      inside = subst (λ ids. AllByRecursion (λ i. i < length listed) ids) (sym h.ids_are) (places_inside test 0 (take n listed) (length listed) (omega (arith, len, l)));
-      few = omega (arith, ap length h.ids_are, places_few test 0 (take n listed), len, l, few);
-      groups = h.groups;
-      lines = h.lines;
-    }
+pub inside_table : (S : LinearSystem) (listed : List (List ℤ)) (test : List ℤ → Bool) (n : ℕ) (t : Table) → n ≤ length listed → IsTable S listed test n t → AllByRecursion (λ i. i < n) t.ids.items
+inside_table S listed test n t l h = subst (λ ids. AllByRecursion (λ i. i < n) ids) (sym h.ids_are) (places_inside test 0 (take n listed) n (omega (arith, length-take-le n listed l)))
 
-pub whole_table : (S : LinearSystem) (listed : List (List ℤ)) (test : List ℤ → Bool) (t : Table) → t.ids.items ≡ places test 0 listed → length t.lines.items ≡ (length t.ids.items + 63) / 64 → AreLines (width S) listed t.ids.items t.lines.items → IsTable S listed test (length listed) t
-whole_table S listed test t e n h = record { ids_are = e ∙ ap (places test 0) (sym (take_all (length listed) listed (omega arith))); groups = n; lines = h }
+pub few_table : (S : LinearSystem) (listed : List (List ℤ)) (test : List ℤ → Bool) (n : ℕ) (t : Table) → n ≤ length listed → length listed ≤ 2 ^ 21 → IsTable S listed test n t → length t.ids.items ≤ 2 ^ 21
+few_table S listed test n t l few h = omega (arith, ap length h.ids_are, places_few test 0 (take n listed), length-take-le n listed l, l, few)
 
-pub no_table : (S : LinearSystem) (listed : List (List ℤ)) (test : List ℤ → Bool) (n : ℕ) (t : Table) → n ≡ 0 → t.ids.items ≡ [] → t.lines.items ≡ [] → IsTable S listed test n t
-no_table S listed test n t z e f = record {
-  ids_are = e ∙ sym (ap (λ m. places test 0 (take m listed)) z);
-  groups = omega (arith, ap length e, ap length f);
-  lines = λ a d l. absurd (omega (arith, ap length f, l));
+-- one row more that passes the test
+pub table_more : (S : LinearSystem) (listed : List (List ℤ)) (test : List ℤ → Bool) (i : ℕ) (old new : Table) → i < length listed → test (row_at listed i) ≡ true → IsTable S listed test i old
+    → new.ids.items ≡ old.ids.items ++ (i ∷ []) → length new.groups.items ≡ (length new.ids.items + 63) / 64 → AreSized (16 * width S) new.groups.items → AreGroups S listed new.ids.items new.groups.items → IsTable S listed test (i + 1) new
+table_more S listed test i old new l t h ids count sized groups = record {
+  ids_are = one_place test listed i old.ids.items new.ids.items l t h.ids_are ids;
+  count = count;
+  sized = sized;
+  groups = groups;
 }
 
-pub on_ok_table : {E : Type 0} (S : LinearSystem) (listed : List (List ℤ)) (test : List ℤ → Bool) (t : Table) (r : Result (Unit {0}) E)
-    → OnOk r (t.ids.items ≡ places test 0 listed) → OnOk r (length t.lines.items ≡ (length t.ids.items + 63) / 64) → OnOk r (AreLines (width S) listed t.ids.items t.lines.items) → OnOk r (IsTable S listed test (length listed) t)
-on_ok_table S listed test t (Ok u) e n h = whole_table S listed test t e n h
-on_ok_table S listed test t (Err x) e n h = tt
+-- one row more that does not
+pub table_less : (S : LinearSystem) (listed : List (List ℤ)) (test : List ℤ → Bool) (i : ℕ) (t : Table) → i < length listed → test (row_at listed i) ≡ false → IsTable S listed test i t → IsTable S listed test (i + 1) t
+table_less S listed test i t l no h = record {
+  ids_are = no_place test listed i t.ids.items l no h.ids_are;
+  count = h.count;
+  sized = h.sized;
+  groups = h.groups;
+}
 
-pub on_ok_always : {E : Type 0} {A : Type 0} (r : Result (Unit {0}) E) → A → OnOk r A
-on_ok_always (Ok u) a = a
-on_ok_always (Err x) a = tt
+pub no_table : (S : LinearSystem) (listed : List (List ℤ)) (test : List ℤ → Bool) (n : ℕ) (t : Table) → n ≡ 0 → t.ids.items ≡ [] → t.groups.items ≡ [] → IsTable S listed test n t
+no_table S listed test n t z e f = record {
+  ids_are = e ∙ sym (ap (λ m. places test 0 (take m listed)) z);
+  count = omega (arith, ap length e, ap length f);
+  sized = λ a d l. absurd (omega (arith, ap length f, l));
+  groups = λ a d l. absurd (omega (arith, ap length f, l));
+}
+
+-- ---- groups
+-- a group that is put at its place
+pub groups_put : (S : LinearSystem) (listed : List (List ℤ)) (ids : List ℕ) (groups : List Group) (g : Group) → AreGroups S listed ids groups → IsGroup S listed ids (length groups) g → AreGroups S listed ids (groups ++ (g ∷ []))
+groups_put S listed ids groups g h here = λ a d l. elim (cases_lt a (length groups)) [
+  | inl s ↦ subst (IsGroup S listed ids a) (sym (get_or_append_left groups (g ∷ []) d a s)) (h a d s)
+  | inr s ↦
+      let at : a ≡ length groups + 0 = omega (arith, l, length-append groups (g ∷ []), s) in
+      let e : get_or (groups ++ (g ∷ [])) a d ≡ g = ap (λ m. get_or (groups ++ (g ∷ [])) m d) at ∙ get_or-append-add groups (g ∷ []) 0 d in
+      subst₂ (λ (m : ℕ) (x : Group). IsGroup S listed ids m x) (omega (arith, at)) (sym e) here
+]
+
+pub sized_put : (n : ℕ) (groups : List Group) (g : Group) → AreSized n groups → IsSized n g → AreSized n (groups ++ (g ∷ []))
+sized_put n groups g h here = λ a d l. elim (cases_lt a (length groups)) [
+  | inl s ↦ subst (IsSized n) (sym (get_or_append_left groups (g ∷ []) d a s)) (h a d s)
+  | inr s ↦
+      let at : a ≡ length groups + 0 = omega (arith, l, length-append groups (g ∷ []), s) in
+      subst (IsSized n) (sym (ap (λ m. get_or (groups ++ (g ∷ [])) m d) at ∙ get_or-append-add groups (g ∷ []) 0 d)) here
+]
+
+pub sized_set : (n : ℕ) (groups : List Group) (b : ℕ) (g : Group) → AreSized n groups → IsSized n g → AreSized n (set groups b g)
+sized_set n groups b g h here = λ a d l. elim (cases_eq a b) [
+  | inl s ↦ subst (IsSized n) (sym (get_or-set_at groups b a g d s (omega (arith, l, length-set groups b g, s)))) here
+  | inr s ↦ subst (IsSized n) (sym (get_or-set_other groups b a g d s)) (h a d (omega (arith, l, length-set groups b g)))
+]
+
+-- the last group with one row more
+pub groups_set : (S : LinearSystem) (listed : List (List ℤ)) (ids : List ℕ) (i : ℕ) (groups : List Group) (b : ℕ) (g : Group) → AreGroups S listed ids groups → IsGroup S listed (ids ++ (i ∷ [])) b g → AreGroups S listed (ids ++ (i ∷ [])) (set groups b g)
+groups_set S listed ids i groups b g h here = λ a d l. elim (cases_eq a b) [
+  | inl s ↦ subst₂ (λ (m : ℕ) (x : Group). IsGroup S listed (ids ++ (i ∷ [])) m x) (sym s) (sym (get_or-set_at groups b a g d s (omega (arith, l, length-set groups b g, s)))) here
+  | inr s ↦
+      let r : IsGroup S listed ids a (get_or groups a d) = h a d (omega (arith, l, length-set groups b g)) in
+      subst (IsGroup S listed (ids ++ (i ∷ [])) a) (sym (get_or-set_other groups b a g d s)) (record {
+        bars = tell_stays (BarsLine S listed) listed ids i a (get_or groups a d).bars r.bars;
+        reached = tell_stays ReachesLine listed ids i a (get_or groups a d).reached r.reached;
+      })
+]
+
+pub on_ok_table : {E : Type 0} (S : LinearSystem) (listed : List (List ℤ)) (test : List ℤ → Bool) (i : ℕ) (old new : Table) (r : Result (Unit {0}) E) → i < length listed → test (row_at listed i) ≡ true → IsTable S listed test i old
+    → OnOk r (new.ids.items ≡ old.ids.items ++ (i ∷ [])) → OnOk r (length new.groups.items ≡ (length new.ids.items + 63) / 64) → OnOk r (AreSized (16 * width S) new.groups.items) → OnOk r (AreGroups S listed new.ids.items new.groups.items)
+    → OnOk r (IsTable S listed test (i + 1) new)
+on_ok_table S listed test i old new (Ok u) l t h ids count sized groups = table_more S listed test i old new l t h ids count sized groups
+on_ok_table S listed test i old new (Err x) l t h ids count sized groups = tt

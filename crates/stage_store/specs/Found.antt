@@ -57,10 +57,6 @@ pub record GainsSums (S : LinearSystem) (listed : List (List ℤ)) (ids : List (
   pub width_is : new.width ≡ old.width
   pub gains : (z : List ℤ) → Contains new.rows z ↔ (Contains old.rows z ⊎ IsSumAmong S listed ids z)
 
--- where its bit is set, the pair of row i and the k-th of the second rows has no sum
-abbrev pub HaveNoSums : LinearSystem → List (List ℤ) → ℕ → List ℕ → ℕ → Type 0
-HaveNoSums S listed i seconds bits = (k : ℕ) → k < length seconds → bit_at bits k ≡ 1 → HasSum S (row_at listed i) (row_at listed (slice_index_or seconds k 0)) → ⊥
-
 abbrev pub place_pair : ℕ → ℕ → ℕ × ℕ
 place_pair i j = (i, j)
 

@@ -1,5 +1,5 @@
 -- Lines of bits over 64 rows, and levels. Both are one-sided: what is not told may be true all the same.
-use Rattle.std.specs.Prelude.{◌≡◌, ◌⊎◌, ℕ, ◌+◌, ◌*◌, ◌/◌, ◌%◌, ◌<◌, ◌≤◌, Bool, true, false, ℤ, List, length, slice_index_or}
+use Rattle.std.specs.Prelude.{◌≡◌, ◌⊎◌, ℕ, ◌+◌, ◌*◌, ◌/◌, ◌%◌, ◌<◌, ◌≤◌, Bool, true, false, ℤ, List, ◌^◌, length, slice_index_or, slice_set, bit_or}
 use Rattle.std.specs.Int.{bit_at}
 use Rattle.stage_store.specs.Classes.{row_at}
 
@@ -15,6 +15,10 @@ IsSaid upper levels m = IsSaidLevel upper (slice_index_or levels (m / 8) 0) (m %
 -- the bit of a row in a line
 abbrev pub HasBit : List ℕ → ℕ → ℕ → Type 0
 HasBit lines m r = bit_at (slice_index_or lines m 0) r ≡ 1
+
+-- the lines with a bit more
+abbrev pub with_bit : List ℕ → ℕ → ℕ → List ℕ
+with_bit lines m q = slice_set lines m (bit_or (slice_index_or lines m 0) (1 * 2 ^ q % 2 ^ 64))
 
 -- no bit is set
 abbrev pub AreClear : List ℕ → Type 0

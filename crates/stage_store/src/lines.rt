@@ -1,7 +1,7 @@
 //! Lines of bits over 64 rows: what each of the rows says, so that 64 of them are asked at once.
 
 ghost use Rattle.std.specs.Prelude.{◌≡◌, ◌*◌, ◌/◌, ◌%◌, ◌<◌, ◌≤◌, ◌↔◌, ℕ, length, slice_index_or, IfOk, IfSome, OnOk, IsTrue};
-ghost use Rattle.stage_store.specs.Lines.{IsSaidLevel, IsSaid, AreClear, MarksRow, IsAny, AreInside, AreSaid};
+ghost use Rattle.stage_store.specs.Lines.{IsSaidLevel, IsSaid, AreClear, MarksRow, with_bit, IsAny, AreInside, AreSaid};
 
 use std::alloc::{AllocError, Global};
 use std::marker::Model;
@@ -41,22 +41,31 @@ impl Lines {
     {
         for m in 0..self.words.len() {
             if is_said(upper, levels[m / 8], m % 8) {
-                self.words[m] |= 1_u64 << q;
+                set_bit(&mut self.words, m, q);
             }
         }
     }
 
     /// The rows that have a bit in one of the lines.
-    pub fn any(&self, places: &[u32]) -> u64
+    pub fn any(&self, places: &[usize]) -> u64
         requires { AreInside (length self.now) places.now }
         ensures { IsAny self.now places.now result }
     {
         let mut bits = 0;
         for k in 0..places.len() {
-            bits |= self.words[places[k] as usize];
+            bits |= self.words[places[k]];
         }
         bits
     }
+}
+
+/// Sets a bit of a word.
+fn set_bit(words: &mut Vec<u64>, m: usize, q: usize)
+    requires word { m < length words.old.items }
+    requires bit { q < 64 }
+    ensures { words.new.items ≡ with_bit words.old.items m q }
+{
+    words[m] |= 1_u64 << q;
 }
 
 /// Whether a level of an item is said: an upper one from `level` on, or a lower one before it.
@@ -85,14 +94,14 @@ fn edge(upper: bool, level: u8) -> Option<u8>
 }
 
 /// Takes in the places of lines that are said, one for each item of which a level is.
-pub fn take_said(upper: bool, levels: &[u8], places: &mut Vec<u32>) -> Result<(), AllocError>
+pub fn take_said(upper: bool, levels: &[u8], places: &mut Vec<usize>) -> Result<(), AllocError>
     requires few { length levels.now ≤ 260 }
     ensures { OnOk result (AreSaid upper levels.now places.new.items) }
 {
     places.truncate(0);
     for k in 0..levels.len() {
         if let Some(level) = edge(upper, levels[k]) {
-            places.push(8 * k as u32 + u32::from(level))?;
+            places.push(8 * k + level as usize)?;
         }
     }
     Ok(())

@@ -5,7 +5,7 @@
 //! makes an irreducible sum with it: since their entries have opposite signs, since the sum's is above the cap, or since
 //! a listed row with last entry 0 is below the row with that amount more.
 
-ghost use Rattle.std.specs.Prelude.{◌≡◌, ◌+◌, ◌*◌, ◌/◌, ◌<◌, ◌≤◌, ◌^◌, ℕ, ℤ, List, pos, length, slice_index_or, IfSome, IsTrue, All, nat_abs};
+ghost use Rattle.std.specs.Prelude.{◌≡◌, ◌↔◌, true, false, ◌≤ℤ◌, ◌+◌, ◌*◌, ◌/◌, ◌<◌, ◌≤◌, ◌^◌, ℕ, ℤ, List, pos, length, slice_index_or, IfSome, IsTrue, All, nat_abs};
 ghost use Rattle.std.specs.List.{Contains};
 ghost use Rattle.lift_core.specs.ToolSystems.{width};
 ghost use Rattle.stage_store.specs.Indexed.{HoldsRows};
@@ -33,20 +33,31 @@ fn amount(level: u8) -> u64
     1_u64 << level
 }
 
-/// The entry with the amount of a level more, on the side of a sign; near the end of the range, itself.
+/// The entry with the amount of a level more; near the end of the range, itself.
+fn raised_up(entry: i64, level: u8) -> i64
+    requires level { level < 8 }
+    requires side { pos 0 ≤ℤ entry }
+    ensures { IsRaised true level entry result }
+{
+    if entry <= EDGE { entry + amount(level) as i64 } else { entry }
+}
+
+/// The entry with the amount of a level less; near the end of the range, itself.
+fn raised_down(entry: i64, level: u8) -> i64
+    requires level { level < 8 }
+    requires side { entry ≤ℤ pos 0 }
+    ensures { IsRaised false level entry result }
+{
+    if entry >= -EDGE { entry - amount(level) as i64 } else { entry }
+}
+
+/// The entry with the amount of a level more on the side of a sign.
 fn raised(entry: i64, positive: bool, level: u8) -> i64
     requires level { level < 8 }
     requires side { IsOnSide positive entry }
     ensures { IsRaised positive level entry result }
 {
-    let more = amount(level) as i64;
-    if positive {
-        if entry <= EDGE { entry + more } else { entry }
-    } else if entry >= -EDGE {
-        entry - more
-    } else {
-        entry
-    }
+    if positive { raised_up(entry, level) } else { raised_down(entry, level) }
 }
 
 /// Writes the row with last entry 0 and the amount of a level more.

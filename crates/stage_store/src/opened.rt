@@ -1,6 +1,7 @@
 //! The pairs of a norm that may have an irreducible sum, by their numbers.
 
-ghost use Rattle.std.specs.Prelude.{◌≡◌, ◌+◌, ◌-◌, ◌*◌, ◌%◌, ◌<◌, ◌≤◌, ◌^◌, ℕ, [], List, length, take, slice_index_or, MatchOption, IfOk, OnOk};
+ghost use Rattle.std.specs.Prelude.{◌≡◌, ◌+◌, ◌-◌, ◌*◌, ◌%◌, ◌<◌, ◌≤◌, ◌^◌, ℕ, [], List, length, take, slice_index_or, MatchOption, IfOk, OnOk, IsFalse};
+ghost use Rattle.stage_store.specs.declared.sieve.KeptPair.{KeptPair};
 ghost use Rattle.std.specs.List.{Contains, AllByRecursion, sum_by};
 ghost use Rattle.std.specs.List.Sorted.{IsStrictlySortedBy, IsNonDecreasingBy};
 ghost use Rattle.lift_core.specs.Stages.{stage_norm, has_positive_last, has_negative_last};
@@ -144,8 +145,8 @@ fn number_of_kept(
 }
 
 /// Whether a pair has norm e.
-fn has_norm(kept: &[KeptPair], e: u64) -> bool
-    ensures { result ≡ false → (k : ℕ) → k < length kept.now → (slice_index_or kept.now k no_pair).norm ≡ e → ⊥ }
+fn holds_norm(kept: &[KeptPair], e: u64) -> bool
+    ensures { IsFalse result → (k : ℕ) (d : KeptPair) → k < length kept.now → (slice_index_or kept.now k d).norm ≡ e → ⊥ }
 {
     for k in 0..kept.len() {
         if kept[k].norm == e {
@@ -175,7 +176,7 @@ fn open_kept(
     ensures { IfOk result (λ opens. AreOpened plus.now minus.now e kept.now opens.items) }
 {
     let mut opens = Vec::new(alloc);
-    if !has_norm(kept, e) {
+    if !holds_norm(kept, e) {
         return Ok(opens);
     }
     let starts = part_starts(alloc, plus, minus, e)?;

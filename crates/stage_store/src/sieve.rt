@@ -103,9 +103,9 @@ pub struct Room {
     bars: Vec<u8>,
     reached: Vec<u8>,
     /// Where rows that bar what this one reaches have a bit.
-    bar_reads: Vec<u32>,
+    bar_reads: Vec<usize>,
     /// Where rows that reach what this one bars have a bit.
-    reach_reads: Vec<u32>,
+    reach_reads: Vec<usize>,
 }
 
 /// The sieve over the first listed rows.
@@ -315,7 +315,7 @@ impl Group {
     }
 
     /// The rows that make no irreducible sum with the one for which these lines are read.
-    fn dead(&self, bar_reads: &[u32], reach_reads: &[u32]) -> u64
+    fn dead(&self, bar_reads: &[usize], reach_reads: &[usize]) -> u64
         requires bars { AreInside (length self.now.bars) bar_reads.now }
         requires reached { AreInside (length self.now.reached) reach_reads.now }
         ensures { IsDead self.now bar_reads.now reach_reads.now result }
@@ -565,7 +565,8 @@ impl Sieve {
         if has_sign(listed.row(RowId(i)), width, false) {
             return self.sift_under(alloc, system, listed, tree, norm, i, room);
         }
-        self.reaches.push(0)
+        self.reaches.push(0)?;
+        Ok(())
     }
 
     /// Sifts the pairs of a row with last entry above 0.

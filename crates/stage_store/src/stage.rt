@@ -164,7 +164,7 @@ impl Model for Stage {
 
     ghost view = { λ s. record { system = s.system; number = s.number; norm = s.norm; before = s.before; listed = s.listed.rows; waiting = drop s.waited s.waiting.rows } };
 
-    ghost invariant = { λ s. Holds (record { system = s.system; number = s.number; norm = s.norm; before = s.before; listed = s.listed.rows; waiting = drop s.waited s.waiting.rows }) s.listed s.tree s.waiting s.waited s.used s.plus.items s.minus.items s.sieve s.ahead };
+    ghost invariant = { λ s. Holds (record { system = s.system; number = s.number; norm = s.norm; before = s.before; listed = s.listed.rows; waiting = drop s.waited s.waiting.rows }) s.listed s.tree s.waiting s.waited s.used s.plus.items s.minus.items s.sieve s.following s.counted s.ahead };
 }
 
 impl Stage {
@@ -401,6 +401,14 @@ impl Stage {
         if self.counted.known && self.counted.norm == norm {
             return self.counted.pairs;
         }
+        self.count_at(norm)
+    }
+
+    /// The same, counted by the classes.
+    fn count_at(&self, norm: u64) -> u64
+        ensures number { result ≡ length (pairs_of self.now.listed norm) }
+        ensures most { result ≤ 2 ^ 42 }
+    {
         count_pairs(&self.plus, &self.minus, norm)
     }
 
@@ -602,11 +610,15 @@ impl Stage {
         ensures { self.new ≡ self.old }
     {
         let next = self.least_norm();
-        if let Some(Next::Norm(norm)) = next {
-            let pairs = self.pairs_at(norm);
-            self.counted = Counted { known: true, norm, pairs };
-        }
         self.following = Following { known: true, next };
+        if let Some(Next::Norm(norm)) = next {
+            let pairs = self.count_at(norm);
+            self.counted = Counted {
+                known: true,
+                norm,
+                pairs,
+            };
+        }
     }
 
     /// Sifts the pairs of the rows that were listed since.

@@ -1,6 +1,6 @@
 use Rattle.std.proofs.Common.{◌≡◌, ◌∙◌, ◌-◌, ap₂, arith, rules, set, get_or, length, SFits, w64, to_z-of_z, List, ℤ}
 use Rattle.std.specs.Prelude.{pos}
-use Rattle.stage_store.specs.Sieve.{entry_against}
+use Rattle.stage_store.specs.Reaches.{entry_against}
 use Rattle.stage_store.proofs.Reaches.{probe_is}
 use Rattle.stage_store.proofs.reach.fill_probe.Goals as goal
 

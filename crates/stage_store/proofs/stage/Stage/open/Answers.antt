@@ -25,7 +25,7 @@ invariant_of-self c =
     let above : c.self.inside.norm < c.args.e = omega (arith, ap norm_of c.self.view_is, c.requires) in
     let rows : c.self.inside.sieve.rows ≡ length c.self.inside.listed.rows = c.if-self-len.false ∙ c.len.ensures in
     let here : c.pairs.result.now ≡ get_or c.self.inside.sieve.shelves.items (c.args.e % 256) [] =
-    c.pairs.ensures ∙ c.index-shelf.ensures ∙ get_or-default c.self.inside.sieve.shelves.items (c.args.e % 256) c.index-shelf.result.now [] (omega (arith, i.sieve_is.shelves_are)) in
+    c.pairs.ensures ∙ c.index-shelf.ensures ∙ get_or-default c.self.inside.sieve.shelves.items (c.args.e % 256) c.index-shelf.result.now [] (omega (arith, i.sieve_is.upto.shelves_are)) in
     record {
       stage = i.stage;
       listed_width = i.listed_width;
@@ -39,6 +39,8 @@ invariant_of-self c =
       plus_ids = i.plus_ids;
       minus_ids = i.minus_ids;
       sieve_is = i.sieve_is;
+      following_is = i.following_is;
+      counted_is = i.counted_is;
       ahead_is = λ t. subst (λ (n : ℕ). IsOpen (value_of c.self.inside.system c.self.inside.number c.self.inside.norm c.self.inside.before c.self.inside.listed.rows (drop c.self.inside.waited c.self.inside.waiting.rows)) n c.in_ok-opened.opened.pairs.items) (sym c.in_ok-opened.ensures.norm)
           (opened_is_open (value_of c.self.inside.system c.self.inside.number c.self.inside.norm c.self.inside.before c.self.inside.listed.rows (drop c.self.inside.waited c.self.inside.waiting.rows)) c.self.inside.plus.items c.self.inside.minus.items c.args.e
           i.plus_classes i.minus_classes c.self.inside.sieve c.pairs.result.now c.in_ok-opened.opened.pairs.items i.stage i.sieve_is rows above here a c.in_ok-opened.ensures.ascending);

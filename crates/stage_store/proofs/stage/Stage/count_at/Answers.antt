@@ -4,7 +4,7 @@ use Rattle.stage_store.specs.Classes.{AreClasses}
 use Rattle.stage_store.specs.Stage.{IsStage}
 use Rattle.stage_store.proofs.Held.{classes_of, stage_of, parts_under}
 use Rattle.stage_store.proofs.Pairs.{parts_small, pairs_count}
-use Rattle.stage_store.proofs.stage.Stage.pairs_at.Goals as goal
+use Rattle.stage_store.proofs.stage.Stage.count_at.Goals as goal
 
 pub count_pairs-requires-clause-small : goal.count_pairs-requires-clause-small
 count_pairs-requires-clause-small c =
