@@ -1,6 +1,7 @@
 //! The irreducible sums of numbered pairs, and what a worker remembers on the way.
 
 ghost use Rattle.std.specs.Prelude.{◌≡◌, ◌⊎◌, ◌≤◌, ◌<◌, ◌+◌, ◌^◌, ℕ, [], length, slice_index_or, IfSome, IfOk, OnOk, IsTrue};
+ghost use Rattle.std.specs.List.{Contains};
 ghost use Rattle.std.specs.List.Sorted.{IsNonDecreasingBy};
 ghost use Rattle.lift_core.specs.ToolSystems.{width};
 ghost use Rattle.stage_store.specs.Classes.{pairs_of, IsPairAt};
@@ -20,24 +21,27 @@ const BLOCK: u64 = 256;
 /// How many reducers are remembered.
 const REDUCERS: usize = 16;
 
-/// How many places of sums that were found are remembered.
-const FOUND: usize = 4096;
+/// The most places of sums that are remembered.
+const FOUND: u64 = 4096;
 
-/// What a worker remembers from one range of pairs to the next: the places of the listed rows that the last reducible
-/// sums were above, the likeliest first. No clause rests on it.
+/// What a worker remembers from one range of pairs of a norm to the next: the places of the listed rows that the last
+/// reducible sums were above, the likeliest first. No clause rests on it.
 #[derive(Drop)]
 pub struct Hints {
     reducers: Vec<u32>,
     /// Where sums were put among the rows that were found, by a hash of the sum.
     found: Vec<u32>,
+    /// Where the last range ended among the open pairs.
+    ended: usize,
 }
 
 impl Hints {
-    /// Nothing is remembered yet. All the memory that is ever needed is taken here.
-    pub fn new(alloc: Global) -> Result<Hints, AllocError> {
+    /// Nothing is remembered yet of a norm with so many pairs. All the memory that is ever needed is taken here.
+    pub fn new(alloc: Global, pairs: u64) -> Result<Hints, AllocError> {
         Ok(Hints {
             reducers: vec![in alloc; 0; REDUCERS]?,
-            found: vec![in alloc; 0; FOUND]?,
+            found: vec![in alloc; 0; pairs.min(FOUND) as usize]?,
+            ended: 0,
         })
     }
 
@@ -57,17 +61,25 @@ impl Hints {
 
     /// Where a sum's place is remembered.
     fn slot(&self, sum: &[i64]) -> usize {
-        let mut hash: u64 = 0;
-        for entry in sum {
-            hash = (hash ^ *entry as u64).wrapping_mul(0x9E37_79B9_7F4A_7C15).rotate_left(25);
-        }
-        (hash >> 20) as usize % FOUND
+        let slots = self.found.len() as u64;
+        if slots == 0 { 0 } else { (hash_of(sum) % slots) as usize }
     }
 
     /// Whether a sum is known to be among the rows.
-    fn is_found(&self, slot: usize, rows: &Pool, sum: &[i64]) -> bool {
-        let place = self.found[slot];
-        place < rows.len() && same(rows.row(RowId(place)), sum)
+    fn is_found(&self, slot: usize, rows: &Pool, sum: &[i64]) -> bool
+        ensures { IsTrue result → Contains rows.now.rows sum.now }
+    {
+        match self.found.get(slot) {
+            Some(place) => *place < rows.len() && same(rows.row(RowId(*place)), sum),
+            None => false,
+        }
+    }
+
+    /// Keeps in mind where a sum was put.
+    fn put(&mut self, slot: usize, id: RowId) {
+        if let Some(place) = self.found.get_mut(slot) {
+            *place = id.0;
+        }
     }
 
     /// Keeps a reducer in mind, in place of the unlikeliest.
@@ -76,6 +88,16 @@ impl Hints {
             *place = id.0;
         }
     }
+}
+
+/// A hash of a vector.
+fn hash_of(vector: &[i64]) -> u64 {
+    let mut hash: u64 = 0;
+    for entry in vector {
+        let sign = u64::from(*entry < 0);
+        hash = (hash ^ entry.unsigned_abs() ^ (sign << 62)).wrapping_mul(0x9E37_79B9_7F4A_7C15).rotate_left(25);
+    }
+    hash >> 20
 }
 
 /// Which of some places has a listed row that is below a sum.
@@ -119,7 +141,10 @@ fn take_places(
         return;
     }
     let slot = hints.slot(sum);
-    if hints.is_found(slot, rows, sum) || hints.is_reduced(stage, sum) {
+    if hints.is_found(slot, rows, sum) {
+        return;
+    }
+    if hints.is_reduced(stage, sum) {
         return;
     }
     if let Some(id) = stage.find_below(sum, &mut Visits { count: 0 }) {
@@ -127,7 +152,7 @@ fn take_places(
         return;
     }
     let id = rows.push(sum);
-    hints.found[slot] = id.0;
+    hints.put(slot, id);
 }
 
 /// Takes in the sum of the pair with a number, where it has one that is irreducible.
@@ -190,8 +215,20 @@ fn take_open(
     pair.number + 1
 }
 
-/// A place before which all open pairs have numbers below `first`.
-fn open_from(pairs: &[OpenPair], first: u64) -> usize
+/// A place before which all open pairs have numbers below `first`: where the last range ended, if it is one.
+fn open_from(pairs: &[OpenPair], first: u64, ended: usize) -> usize
+    requires { IsNonDecreasingBy open_number pairs.now }
+    ensures within { result ≤ length pairs.now }
+    ensures before { (k : ℕ) (d : OpenPair) → k < result → open_number (slice_index_or pairs.now k d) < first }
+{
+    if ended > 0 && ended <= pairs.len() && pairs[ended - 1].number < first {
+        return ended;
+    }
+    search_from(pairs, first)
+}
+
+/// The same, by halves.
+fn search_from(pairs: &[OpenPair], first: u64) -> usize
     requires { IsNonDecreasingBy open_number pairs.now }
     ensures within { result ≤ length pairs.now }
     ensures before { (k : ℕ) (d : OpenPair) → k < result → open_number (slice_index_or pairs.now k d) < first }
@@ -234,11 +271,12 @@ pub fn take_opened(
     let pairs = &opened.pairs;
     let to = first + count;
     let mut done = first;
-    let mut k = open_from(pairs, first);
+    let mut k = open_from(pairs, first, hints.ended);
     while k < pairs.len() && pairs[k].number < to {
         done = take_open(stage, opened.norm, pairs[k], done, hints, sum, rows);
         k += 1;
     }
+    hints.ended = k;
 }
 
 /// Takes in the sums of the pairs with the numbers from `first` on, `count` of them.
@@ -277,7 +315,7 @@ pub fn gather_all(alloc: Global, stage: &Stage, norm: u64, pairs: u64) -> Result
 {
     stage.keeps();
     let width = stage.system().width() + 1;
-    let mut hints = Hints::new(alloc)?;
+    let mut hints = Hints::new(alloc, pairs)?;
     let mut sum: Vec<i64> = vec![in alloc; 0; width as usize]?;
     let mut rows = Pool::new(alloc, width);
     let mut first = 0;

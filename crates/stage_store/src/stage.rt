@@ -404,6 +404,14 @@ impl Stage {
         self.count_at(norm)
     }
 
+    /// About how many pairs of a norm `gather` looks at: fewer than it has, once the norm is open. No clause rests on it.
+    pub fn pairs_left(&self, norm: u64) -> u64 {
+        if self.ahead.known && self.ahead.norm == norm {
+            return self.ahead.pairs.len() as u64;
+        }
+        self.pairs_at(norm)
+    }
+
     /// The same, counted by the classes.
     fn count_at(&self, norm: u64) -> u64
         ensures number { result ≡ length (pairs_of self.now.listed norm) }
