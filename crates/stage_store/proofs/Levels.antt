@@ -97,6 +97,12 @@ front_length (x ∷ y ∷ u) l = let r = front_length (y ∷ u) (omega arith) in
 plus_turned : (x y : ℤ) → (x +ℤ y) ≡ (y +ℤ x)
 plus_turned x y = omega (arith, ints)
 
+zip_at : (caps : List (Option ℕ)) (v : List ℤ) (j : ℕ) → AllZip IsCapped caps v → j < length caps → IsCapped (get_or caps j None) (get_or v j (pos 0))
+zip_at [] v j h l = absurd (omega (arith, l))
+zip_at (c ∷ caps) [] j h l = absurd h
+zip_at (c ∷ caps) (x ∷ v) zero h l = h.0
+zip_at (c ∷ caps) (x ∷ v) (suc j) h l = zip_at caps v j h.1 (omega arith)
+
 -- ---- the three reasons
 module _ (S : LinearSystem) (listed : List (List ℤ)) (f : List ℤ) (j : ℕ) (positive : Bool) (level : ℕ) (inside : j + 1 < length f) where
   -- the product of the entries of two conformal rows
@@ -131,7 +137,7 @@ module _ (S : LinearSystem) (listed : List (List ℤ)) (f : List ℤ) (j : ℕ) 
   -- the entry of a sum that obeys the caps
   capped_at : (u v : List ℤ) (c : ℕ) → length u ≡ length v → j + 1 < length u → j < length S.caps → get_or S.caps j None ≡ Some c → ObeysCaps S (front (add u v)) → nat_abs (get_or u j (pos 0) +ℤ get_or v j (pos 0)) ≤ c
   capped_at u v c n l inside_caps e h =
-      let q : IsCapped (get_or S.caps j None) (get_or (front (add u v)) j (pos 0)) = AllZip-get_or IsCapped S.caps (front (add u v)) j None (pos 0) h inside_caps in
+      let q : IsCapped (get_or S.caps j None) (get_or (front (add u v)) j (pos 0)) = zip_at S.caps (front (add u v)) j h inside_caps in
       let r : IsCapped (Some c) (get_or (front (add u v)) j (pos 0)) = subst (λ (o : Option ℕ). IsCapped o (get_or (front (add u v)) j (pos 0))) e q in
       subst (λ (x : ℤ). nat_abs x ≤ c) (front_at (add u v) j (omega (arith, add_length u v n, l)) ∙ sum_at u v j n (omega (arith, l))) r
     where

@@ -19,8 +19,10 @@ use Rattle.lift_core.specs.ToolSystems.{width}
 use Rattle.stage_store.specs.Levels.{MakesNone}
 use Rattle.stage_store.specs.Classes.{row_at, rows_at, places}
 use Rattle.stage_store.specs.declared.sieve.Sieve.{Sieve}
-use Rattle.stage_store.specs.Sieve.{AreSifted, IsSieve, IsNewSieve, IsKept, Stay, HasNoNewSumBy, IsSiftedBy, AreSiftedBy, AreWide, IsGroup, IsSized, IsDead, AreAsked, pair_by}
-use Rattle.stage_store.proofs.Tables.{has_place, no_table}
+use Rattle.stage_store.specs.Sieve.{AreSifted, IsTable, IsSieveTo, IsSieve, IsNewSieve, IsKept, Stay, HasNoNewSumBy, IsSiftedBy, AreSiftedBy, AreWide, IsGroup, IsSized, IsDead, AreAsked, pair_by}
+use Rattle.stage_store.proofs.Tables.{has_place, no_table, table_less}
+use Rattle.std.specs.Prelude.{Result, Ok, Err, OnOk}
+use Rattle.stage_store.specs.Reaches.{AreReaches}
 use Rattle.stage_store.proofs.Classes.{each_at}
 use Rattle.stage_store.specs.declared.sieve.KeptPair.{KeptPair}
 
@@ -143,6 +145,45 @@ not_negative z p = grind (arith, ints)
 
 pub not_positive : (z : List ℤ) → has_negative_last z ≡ true → has_positive_last z ≡ false
 not_positive z p = grind (arith, ints)
+
+-- ---- the sieve with one row more
+module _ {E : Type 0} (S : LinearSystem) (listed : List (List ℤ)) (d i : ℕ) (old v : Sieve) (inside : i < length listed) (h : IsSieveTo S listed d i old) (stay : Stay old.shelves.items v.shelves.items)
+    (shelves : length v.shelves.items ≡ 256) (count : length v.reaches.items ≡ i + 1) (reaches : AreReaches listed v.reaches.items) where
+  pub on_ok_above : (r : Result (Unit {0}) E) → has_positive_last (row_at listed i) ≡ true → v.minus ≡ old.minus → AreSiftedBy true S listed v.shelves.items i old.minus.ids.items → OnOk r (IsTable S listed has_positive_last (i + 1) v.plus)
+      → OnOk r (IsSieveTo S listed d (i + 1) v)
+  on_ok_above (Ok u) sign same here table = record {
+    plus_table = table;
+    minus_table = subst (IsTable S listed has_negative_last (i + 1)) (sym same) (table_less S listed has_negative_last i old.minus inside (not_negative (row_at listed i) sign) h.minus_table);
+    shelves_are = shelves;
+    reach_count = count;
+    reaches_are = reaches;
+    sifted = sifted_above S listed d i old.shelves.items v.shelves.items stay inside h.sifted (not_negative (row_at listed i) sign)
+        (subst (λ ids. AreSiftedBy true S listed v.shelves.items i ids) h.minus_table.ids_are here);
+  }
+  on_ok_above (Err x) sign same here table = tt
+
+  pub on_ok_under : (r : Result (Unit {0}) E) → has_negative_last (row_at listed i) ≡ true → v.plus ≡ old.plus → AreSiftedBy false S listed v.shelves.items i old.plus.ids.items → OnOk r (IsTable S listed has_negative_last (i + 1) v.minus)
+      → OnOk r (IsSieveTo S listed d (i + 1) v)
+  on_ok_under (Ok u) sign same here table = record {
+    plus_table = subst (IsTable S listed has_positive_last (i + 1)) (sym same) (table_less S listed has_positive_last i old.plus inside (not_positive (row_at listed i) sign) h.plus_table);
+    minus_table = table;
+    shelves_are = shelves;
+    reach_count = count;
+    reaches_are = reaches;
+    sifted = sifted_under S listed d i old.shelves.items v.shelves.items stay inside h.sifted (not_positive (row_at listed i) sign)
+        (subst (λ ids. AreSiftedBy false S listed v.shelves.items i ids) h.plus_table.ids_are here);
+  }
+  on_ok_under (Err x) sign same here table = tt
+
+  pub sieve_neither : has_positive_last (row_at listed i) ≡ false → has_negative_last (row_at listed i) ≡ false → v.plus ≡ old.plus → v.minus ≡ old.minus → IsSieveTo S listed d (i + 1) v
+  sieve_neither above under p m = record {
+    plus_table = subst (IsTable S listed has_positive_last (i + 1)) (sym p) (table_less S listed has_positive_last i old.plus inside above h.plus_table);
+    minus_table = subst (IsTable S listed has_negative_last (i + 1)) (sym m) (table_less S listed has_negative_last i old.minus inside under h.minus_table);
+    shelves_are = shelves;
+    reach_count = count;
+    reaches_are = reaches;
+    sifted = sifted_neither S listed d i old.shelves.items v.shelves.items stay inside h.sifted above under;
+  }
 
 pub new_sieve : (S : LinearSystem) (listed : List (List ℤ)) (d : ℕ) (v : Sieve) → IsNewSieve v → IsSieve S listed d v
 new_sieve S listed d v h = record {

@@ -6,9 +6,12 @@ use Rattle.std.proofs.lemmas.Bool.{cases_Bool, cases_lt, cases_eq}
 use Rattle.std.proofs.lemmas.List.{take_more, take_all, append-nil, length-take-le, get_or_append_left, get_or-append-add}
 use Rattle.stage_store.specs.declared.sieve.Group.{Group}
 use Rattle.stage_store.specs.Levels.{BarsLine, ReachesLine}
-use Rattle.stage_store.proofs.LineBits.{tell_stays}
+use Rattle.stage_store.proofs.LineBits.{tell_stays, tell_marked}
 use Rattle.std.proofs.lemmas.List.{get_or-set_other, length-set}
 use Rattle.std.proofs.lemmas.Grind.{get_or-set_at}
+use Rattle.std.proofs.Common.{set}
+use Rattle.stage_store.specs.Lines.{MarksRow}
+use Rattle.stage_store.specs.Levels.{AreTrue}
 use Rattle.stage_store.specs.Classes.{row_at, rows_at, places}
 use Rattle.std.proofs.Common.{◌^◌, get_or-take}
 use Rattle.std.proofs.lemmas.List.{take-append-drop, take-append-le}
@@ -109,8 +112,8 @@ table_more S listed test i old new l t h ids count sized groups = record {
 
 -- one row more that does not
 pub table_less : (S : LinearSystem) (listed : List (List ℤ)) (test : List ℤ → Bool) (i : ℕ) (t : Table) → i < length listed → test (row_at listed i) ≡ false → IsTable S listed test i t → IsTable S listed test (i + 1) t
-table_less S listed test i t l no h = record {
-  ids_are = no_place test listed i t.ids.items l no h.ids_are;
+table_less S listed test i t l fails h = record {
+  ids_are = no_place test listed i t.ids.items l fails h.ids_are;
   count = h.count;
   sized = h.sized;
   groups = h.groups;
@@ -160,6 +163,19 @@ groups_set S listed ids i groups b g h here = λ a d l. elim (cases_eq a b) [
         reached = tell_stays ReachesLine listed ids i a (get_or groups a d).reached r.reached;
       })
 ]
+
+-- the last group with a row marked
+pub group_marked : (S : LinearSystem) (listed : List (List ℤ)) (ids : List ℕ) (i b q : ℕ) (bars reached bars' reached' : List ℕ) (g : Group) → length ids ≡ 64 * b + q → IsSized (8 * length bars) g → length bars ≡ length reached
+    → AreTrue (BarsLine S listed (row_at listed i)) true bars → AreTrue (ReachesLine (row_at listed i)) false reached → length bars' ≡ length g.bars → length reached' ≡ length g.reached
+    → MarksRow true bars q g.bars bars' → MarksRow false reached q g.reached reached' → IsGroup S listed ids b g → IsGroup S listed (ids ++ (i ∷ [])) b (record { bars = bars'; reached = reached' })
+group_marked S listed ids i b q bars reached bars' reached' g place sized same above under n m marks marks' h = record {
+  bars = tell_marked (BarsLine S listed) listed ids i b q true bars g.bars bars' place n marks (λ k l said. above k (omega (arith, l, sized.bars_count)) said) h.bars;
+  reached = tell_marked ReachesLine listed ids i b q false reached g.reached reached' place m marks' (λ k l said. under k (omega (arith, l, sized.reached_count, same)) said) h.reached;
+}
+
+pub each_less : (m n : ℕ) (ids : List ℕ) → m ≤ n → AllByRecursion (λ i. i < m) ids → AllByRecursion (λ i. i < n) ids
+each_less m n [] l h = tt
+each_less m n (i ∷ ids) l h = (omega (arith, l, h.0), each_less m n ids l h.1)
 
 pub on_ok_table : {E : Type 0} (S : LinearSystem) (listed : List (List ℤ)) (test : List ℤ → Bool) (i : ℕ) (old new : Table) (r : Result (Unit {0}) E) → i < length listed → test (row_at listed i) ≡ true → IsTable S listed test i old
     → OnOk r (new.ids.items ≡ old.ids.items ++ (i ∷ [])) → OnOk r (length new.groups.items ≡ (length new.ids.items + 63) / 64) → OnOk r (AreSized (16 * width S) new.groups.items) → OnOk r (AreGroups S listed new.ids.items new.groups.items)

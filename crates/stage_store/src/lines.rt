@@ -93,13 +93,15 @@ fn edge(upper: bool, level: u8) -> Option<u8>
     }
 }
 
+/// The greatest number of items, two for each column.
+const ITEMS: usize = 260;
+
 /// Takes in the places of lines that are said, one for each item of which a level is.
 pub fn take_said(upper: bool, levels: &[u8], places: &mut Vec<usize>) -> Result<(), AllocError>
-    requires few { length levels.now ≤ 260 }
     ensures { OnOk result (AreSaid upper levels.now places.new.items) }
 {
     places.truncate(0);
-    for k in 0..levels.len() {
+    for k in 0..levels.len().min(ITEMS) {
         if let Some(level) = edge(upper, levels[k]) {
             places.push(8 * k + level as usize)?;
         }

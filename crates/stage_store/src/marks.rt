@@ -218,6 +218,7 @@ fn bar_level(
     ensures length { length probe.new ≡ length probe.old }
     ensures bars { IsBarLevel system.now.equations listed.now.rows row.now column positive result }
 {
+    system.keeps();
     if is_against(row[column], positive) || is_full(system.cap(column as u32 + 1), row[column]) {
         return 0;
     }
