@@ -119,6 +119,15 @@ module _ (s : StageValue) (e : ℕ) where
       ],
     )
 
+    pub found_before : (rows : List (List ℤ)) (out : List ℤ) → out ≡ add (row_at s.listed i) (row_at s.listed j) → Contains rows out → GainsNumbered s e p (p + 1) rows rows
+    found_before rows out is there z = (
+      λ c. inl c,
+      λ t. elim t [
+        | inl c ↦ c
+        | inr h ↦ subst (λ (y : List ℤ). Contains rows y) (is ∙ sym (from_number z h).is) there
+      ],
+    )
+
     pub pushed : (rows new : List (List ℤ)) (out : List ℤ) → HasSum s.system.equations (row_at s.listed i) (row_at s.listed j) → out ≡ add (row_at s.listed i) (row_at s.listed j)
         → IsIrreducible s.listed out → new ≡ rows ++ out ∷ [] → GainsNumbered s e p (p + 1) rows new
     pushed rows new out sum is irr e' z = (

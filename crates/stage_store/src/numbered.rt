@@ -1,6 +1,7 @@
 //! The irreducible sums of numbered pairs, and what a worker remembers on the way.
 
 ghost use Rattle.std.specs.Prelude.{◌≡◌, ◌⊎◌, ◌≤◌, ◌<◌, ◌+◌, ◌^◌, ℕ, [], length, slice_index_or, IfSome, IfOk, OnOk, IsTrue};
+ghost use Rattle.std.specs.List.{Contains};
 ghost use Rattle.std.specs.List.Sorted.{IsNonDecreasingBy};
 ghost use Rattle.lift_core.specs.ToolSystems.{width};
 ghost use Rattle.stage_store.specs.Classes.{pairs_of, IsPairAt};
@@ -55,19 +56,21 @@ impl Hints {
         }
     }
 
-    /// Where a sum's place is remembered.
-    fn slot(&self, sum: &[i64]) -> usize {
-        let mut hash: u64 = 0;
-        for entry in sum {
-            hash = (hash ^ *entry as u64).wrapping_mul(0x9E37_79B9_7F4A_7C15).rotate_left(25);
+    /// Whether a sum is known to be among the rows.
+    fn is_found(&self, slot: usize, rows: &Pool, sum: &[i64]) -> bool
+        ensures { IsTrue result → Contains rows.now.rows sum.now }
+    {
+        match self.found.get(slot) {
+            Some(place) => stands_at(rows, *place, sum),
+            None => false,
         }
-        (hash >> 20) as usize % FOUND
     }
 
-    /// Whether a sum is known to be among the rows.
-    fn is_found(&self, slot: usize, rows: &Pool, sum: &[i64]) -> bool {
-        let place = self.found[slot];
-        place < rows.len() && same(rows.row(RowId(place)), sum)
+    /// Keeps the place of a sum in mind.
+    fn note_found(&mut self, slot: usize, id: RowId) {
+        if let Some(place) = self.found.get_mut(slot) {
+            *place = id.0;
+        }
     }
 
     /// Keeps a reducer in mind, in place of the unlikeliest.
@@ -76,6 +79,23 @@ impl Hints {
             *place = id.0;
         }
     }
+}
+
+/// Whether the row at a place, if there is one, is this one.
+fn stands_at(rows: &Pool, place: u32, sum: &[i64]) -> bool
+    ensures { IsTrue result → Contains rows.now.rows sum.now }
+{
+    place < rows.len() && same(rows.row(RowId(place)), sum)
+}
+
+/// Where the place of a sum is remembered, by a hash.
+fn slot_of(sum: &[i64]) -> usize {
+    let mut hash: u64 = 0;
+    for entry in sum {
+        hash = (hash ^ *entry as u64).wrapping_mul(0x9E37_79B9_7F4A_7C15);
+        hash ^= hash >> 29;
+    }
+    (hash % 4096) as usize
 }
 
 /// Which of some places has a listed row that is below a sum.
@@ -118,16 +138,19 @@ fn take_places(
     if !stage.sum_into(f, g, sum) {
         return;
     }
-    let slot = hints.slot(sum);
-    if hints.is_found(slot, rows, sum) || hints.is_reduced(stage, sum) {
+    let slot = slot_of(sum);
+    if hints.is_found(slot, rows, sum) {
+        return;
+    }
+    if hints.is_reduced(stage, sum) {
         return;
     }
     if let Some(id) = stage.find_below(sum, &mut Visits { count: 0 }) {
         hints.remember(id);
         return;
     }
-    let id = rows.push(sum);
-    hints.found[slot] = id.0;
+    let place = rows.push(sum);
+    hints.note_found(slot, place);
 }
 
 /// Takes in the sum of the pair with a number, where it has one that is irreducible.
