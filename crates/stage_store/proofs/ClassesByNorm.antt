@@ -11,6 +11,8 @@ use Rattle.lift_core.specs.Stages.{stage_norm, norm_cmp}
 use Rattle.lift_core.proofs.Lists.{each_from_contained}
 use Rattle.stage_store.specs.Classes.{ClassValue, AreClasses, places, with_class, row_at}
 use Rattle.stage_store.proofs.Classes.{each_at}
+use Rattle.stage_store.specs.Opened.{AscendWithin}
+use Rattle.stage_store.proofs.MoreRows.{ids_after}
 use Rattle.stage_store.proofs.Onward.{class_below}
 use Rattle.stage_store.proofs.Publish.{more_classes}
 use Rattle.stage_store.proofs.CountedPairs.{norms_ascend, place_in_front, place_behind}
@@ -22,6 +24,7 @@ pub record AreClassesBefore (listed : List (List ℤ)) (test : List ℤ → Bool
   pub less : (k : ℕ) → k < place → place < length listed
       → stage_norm (row_at listed k) < stage_norm (row_at listed place)
   pub classes_are : AreClasses (take place listed) test classes
+  pub ids_ascend : AscendWithin classes
 
 pub nothing_before : (listed : List (List ℤ)) (test : List ℤ → Bool)
     → AreClassesBefore listed test 0 []
@@ -30,6 +33,7 @@ nothing_before listed test = record {
   inside = omega arith;
   less = λ k l m. absurd (omega (arith, l));
   classes_are = record { each = tt; ascending = tt; rows = refl };
+  ids_ascend = tt;
 }
 
 -- the rows from one place up to another have norm e, and the row behind them has not
@@ -100,4 +104,6 @@ module _ (listed : List (List ℤ)) (e from to : ℕ) (s : IsStrictlySortedBy no
           classes_are =
               subst₂ (λ (rows : List (List ℤ)) (these : List ℕ). AreClasses rows test (with_class e these classes))
               joined placed more;
+          ids_ascend = ids_after test from (drop from (take to listed)) classes
+              (with_class e ids classes) e ids h.ids_ascend is refl;
         }

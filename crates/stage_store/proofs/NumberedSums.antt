@@ -110,22 +110,21 @@ module _ (s : StageValue) (e : ℕ) where
       ],
     )
 
-    -- the sum is there already
-    pub among : (rows : List (List ℤ)) (out : List ℤ) → out ≡ add (row_at s.listed i) (row_at s.listed j) → Contains rows out → GainsNumbered s e p (p + 1) rows rows
-    among rows out is c z = (
-      λ c. inl c,
-      λ t. elim t [
-        | inl c ↦ c
-        | inr h ↦ subst (λ (y : List ℤ). Contains rows y) (is ∙ sym (from_number z h).is) c
-      ],
-    )
-
     pub reduced : (rows : List (List ℤ)) (out : List ℤ) → out ≡ add (row_at s.listed i) (row_at s.listed j) → IsReduced s.listed out → GainsNumbered s e p (p + 1) rows rows
     reduced rows out is r z = (
       λ c. inl c,
       λ t. elim t [
         | inl c ↦ c
         | inr h ↦ let q = from_number z h in absurd (q.irreducible r.0 r.1 (subst (λ (y : List ℤ). r.0 ⊑ y) (is ∙ sym q.is) r.2))
+      ],
+    )
+
+    pub found_before : (rows : List (List ℤ)) (out : List ℤ) → out ≡ add (row_at s.listed i) (row_at s.listed j) → Contains rows out → GainsNumbered s e p (p + 1) rows rows
+    found_before rows out is there z = (
+      λ c. inl c,
+      λ t. elim t [
+        | inl c ↦ c
+        | inr h ↦ subst (λ (y : List ℤ). Contains rows y) (is ∙ sym (from_number z h).is) there
       ],
     )
 

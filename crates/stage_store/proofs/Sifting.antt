@@ -175,6 +175,8 @@ module _ {E : Type 0} (S : LinearSystem) (listed : List (List ℤ)) (d i : ℕ) 
   }
   on_ok_under (Err x) sign same here table = tt
 
+module _ (S : LinearSystem) (listed : List (List ℤ)) (d i : ℕ) (old v : Sieve) (inside : i < length listed) (h : IsSieveTo S listed d i old) (stay : Stay old.shelves.items v.shelves.items)
+    (shelves : length v.shelves.items ≡ 256) (count : length v.reaches.items ≡ i + 1) (reaches : AreReaches listed v.reaches.items) where
   pub sieve_neither : has_positive_last (row_at listed i) ≡ false → has_negative_last (row_at listed i) ≡ false → v.plus ≡ old.plus → v.minus ≡ old.minus → IsSieveTo S listed d (i + 1) v
   sieve_neither above under p m = record {
     plus_table = subst (IsTable S listed has_positive_last (i + 1)) (sym p) (table_less S listed has_positive_last i old.plus inside above h.plus_table);

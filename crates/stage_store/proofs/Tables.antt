@@ -182,3 +182,9 @@ pub on_ok_table : {E : Type 0} (S : LinearSystem) (listed : List (List ℤ)) (te
     → OnOk r (IsTable S listed test (i + 1) new)
 on_ok_table S listed test i old new (Ok u) l t h ids count sized groups = table_more S listed test i old new l t h ids count sized groups
 on_ok_table S listed test i old new (Err x) l t h ids count sized groups = tt
+
+pub on_ok_groups : {E : Type 0} (S : LinearSystem) (listed : List (List ℤ)) (i : ℕ) (bars reached ids ids' : List ℕ) (groups groups' : List Group) (r : Result (Unit {0}) E)
+    → OnOk r ((S : LinearSystem) (listed : List (List ℤ)) → AreGroups S listed ids groups → AreTrue (BarsLine S listed (row_at listed i)) true bars → AreTrue (ReachesLine (row_at listed i)) false reached → AreGroups S listed ids' groups')
+    → AreGroups S listed ids groups → AreTrue (BarsLine S listed (row_at listed i)) true bars → AreTrue (ReachesLine (row_at listed i)) false reached → OnOk r (AreGroups S listed ids' groups')
+on_ok_groups S listed i bars reached ids ids' groups groups' (Ok u) h before above under = h S listed before above under
+on_ok_groups S listed i bars reached ids ids' groups groups' (Err x) h before above under = tt

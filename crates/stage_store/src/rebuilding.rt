@@ -7,6 +7,7 @@ ghost use Rattle.std.specs.List.Sorted.{IsStrictlySortedBy};
 ghost use Rattle.lift_core.specs.Stages.{stage_norm, norm_cmp};
 ghost use Rattle.stage_store.specs.Indexed.{HoldsRows};
 ghost use Rattle.stage_store.specs.Classes.{AreClasses, places, sign_test};
+ghost use Rattle.stage_store.specs.Opened.{AscendWithin};
 
 use crate::class::Class;
 use crate::counting::norm_at;
@@ -34,7 +35,8 @@ pub fn classes_of(alloc: Global, listed: &Pool, positive: bool) -> Result<Vec<Cl
     requires above { AllByRecursion (λ z. 0 < stage_norm z) listed.now.rows }
     requires small { AllByRecursion (λ z. stage_norm z ≤ 9223372036854775807) listed.now.rows }
     requires few { length listed.now.rows ≤ 2 ^ 21 }
-    ensures { IfOk result (λ classes. AreClasses listed.now.rows (sign_test positive) classes.items) }
+    ensures classes { IfOk result (λ classes. AreClasses listed.now.rows (sign_test positive) classes.items) }
+    ensures ids { IfOk result (λ classes. AscendWithin classes.items) }
 {
     let mut classes = Vec::new(alloc);
     let mut from = 0;

@@ -1,5 +1,5 @@
 use Rattle.std.proofs.Common.{refl, arith}
-use Rattle.stage_store.proofs.NumberedSums.{no_sum, reducible, reduced, pushed, among}
+use Rattle.stage_store.proofs.NumberedSums.{no_sum, reducible, reduced, found_before, pushed}
 use Rattle.stage_store.proofs.Numbering.{pair_placed}
 use Rattle.stage_store.proofs.numbered.take_places.Goals as goal
 
@@ -20,4 +20,4 @@ returns-clause-gains c =
 
 pub returns-then-is_found-clause-gains : goal.returns-then-is_found-clause-gains
 returns-then-is_found-clause-gains c =
-    among c.args.stage.now c.args.norm c.args.p c.args.f.0 c.args.g.0 c.requires.at c.args.rows.now.rows c.sum_into.new.out (c.if-not-sum_into.ensures.is refl) (c.if-is_found.ensures refl)
+    found_before c.args.stage.now c.args.norm c.args.p c.args.f.0 c.args.g.0 c.requires.at c.args.rows.now.rows c.sum_into.new.out (c.if-not-sum_into.ensures.is refl) (c.if-is_found.ensures refl)
