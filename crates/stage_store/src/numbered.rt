@@ -92,7 +92,7 @@ fn stands_at(rows: &Pool, place: u32, sum: &[i64]) -> bool
 fn slot_of(sum: &[i64]) -> usize {
     let mut hash: u64 = 0;
     for entry in sum {
-        hash = (hash ^ *entry as u64).wrapping_mul(0x9E37_79B9_7F4A_7C15);
+        hash = (hash ^ entry.unsigned_abs()).wrapping_mul(0x9E37_79B9_7F4A_7C15);
         hash ^= hash >> 29;
     }
     (hash % 4096) as usize

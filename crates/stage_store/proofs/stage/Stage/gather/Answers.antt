@@ -13,8 +13,8 @@ take_opened-requires-clause-opens c =
     let a : IsAhead c.args.self.now c.self.inside.ahead = subst (λ (s : StageValue). IsAhead s c.self.inside.ahead) c.self.view_is c.self.invariant.ahead_is in
     a c.if-self.true
 
-pub returns-then-norm-norm-clause-gains : goal.returns-then-norm-norm-clause-gains
-returns-then-norm-norm-clause-gains c = subst (λ (e : ℕ). GainsNumbered c.args.self.now e c.args.first (c.args.first + c.args.count) c.args.rows.now.rows c.take_opened.new.rows.rows) c.if-self-norm.true c.take_opened.ensures.gains
+pub returns-then-self-norm-clause-gains : goal.returns-then-self-norm-clause-gains
+returns-then-self-norm-clause-gains c = subst (λ (e : ℕ). GainsNumbered c.args.self.now e c.args.first (c.args.first + c.args.count) c.args.rows.now.rows c.take_opened.new.rows.rows) c.if-self-norm.true c.take_opened.ensures.gains
 
 pub take_opened-requires-clause-few : goal.take_opened-requires-clause-few
 take_opened-requires-clause-few c =
