@@ -27,7 +27,9 @@ use Rattle.stage_store.specs.Fields.{Holds}
 use Rattle.stage_store.specs.Sieve.{IsNewSieve}
 use Rattle.stage_store.specs.Opened.{AscendWithin, IsAhead}
 use Rattle.stage_store.specs.declared.sieve.Sieve.{Sieve}
+use Rattle.std.specs.Prelude.{false}
 use Rattle.stage_store.specs.declared.opened.Opened.{Opened}
+use Rattle.stage_store.proofs.MoreRows.{unknown}
 use Rattle.stage_store.specs.declared.stage.Following.{Following}
 use Rattle.stage_store.specs.declared.stage.Counted.{Counted}
 use Rattle.stage_store.proofs.Sifting.{new_sieve}

@@ -21,27 +21,24 @@ const BLOCK: u64 = 256;
 /// How many reducers are remembered.
 const REDUCERS: usize = 16;
 
-/// The most places of sums that are remembered.
-const FOUND: u64 = 4096;
+/// How many places of sums that were found are remembered.
+const FOUND: usize = 4096;
 
-/// What a worker remembers from one range of pairs of a norm to the next: the places of the listed rows that the last
-/// reducible sums were above, the likeliest first. No clause rests on it.
+/// What a worker remembers from one range of pairs to the next: the places of the listed rows that the last reducible
+/// sums were above, the likeliest first. No clause rests on it.
 #[derive(Drop)]
 pub struct Hints {
     reducers: Vec<u32>,
     /// Where sums were put among the rows that were found, by a hash of the sum.
     found: Vec<u32>,
-    /// Where the last range ended among the open pairs.
-    ended: usize,
 }
 
 impl Hints {
-    /// Nothing is remembered yet of a norm with so many pairs. All the memory that is ever needed is taken here.
-    pub fn new(alloc: Global, pairs: u64) -> Result<Hints, AllocError> {
+    /// Nothing is remembered yet. All the memory that is ever needed is taken here.
+    pub fn new(alloc: Global) -> Result<Hints, AllocError> {
         Ok(Hints {
             reducers: vec![in alloc; 0; REDUCERS]?,
-            found: vec![in alloc; 0; pairs.min(FOUND) as usize]?,
-            ended: 0,
+            found: vec![in alloc; 0; FOUND]?,
         })
     }
 
@@ -59,24 +56,18 @@ impl Hints {
         }
     }
 
-    /// Where a sum's place is remembered.
-    fn slot(&self, sum: &[i64]) -> usize {
-        let slots = self.found.len() as u64;
-        if slots == 0 { 0 } else { (hash_of(sum) % slots) as usize }
-    }
-
     /// Whether a sum is known to be among the rows.
     fn is_found(&self, slot: usize, rows: &Pool, sum: &[i64]) -> bool
         ensures { IsTrue result → Contains rows.now.rows sum.now }
     {
         match self.found.get(slot) {
-            Some(place) => *place < rows.len() && same(rows.row(RowId(*place)), sum),
+            Some(place) => stands_at(rows, *place, sum),
             None => false,
         }
     }
 
-    /// Keeps in mind where a sum was put.
-    fn put(&mut self, slot: usize, id: RowId) {
+    /// Keeps the place of a sum in mind.
+    fn note_found(&mut self, slot: usize, id: RowId) {
         if let Some(place) = self.found.get_mut(slot) {
             *place = id.0;
         }
@@ -90,14 +81,21 @@ impl Hints {
     }
 }
 
-/// A hash of a vector.
-fn hash_of(vector: &[i64]) -> u64 {
+/// Whether the row at a place, if there is one, is this one.
+fn stands_at(rows: &Pool, place: u32, sum: &[i64]) -> bool
+    ensures { IsTrue result → Contains rows.now.rows sum.now }
+{
+    place < rows.len() && same(rows.row(RowId(place)), sum)
+}
+
+/// Where the place of a sum is remembered, by a hash.
+fn slot_of(sum: &[i64]) -> usize {
     let mut hash: u64 = 0;
-    for entry in vector {
-        let sign = u64::from(*entry < 0);
-        hash = (hash ^ entry.unsigned_abs() ^ (sign << 62)).wrapping_mul(0x9E37_79B9_7F4A_7C15).rotate_left(25);
+    for entry in sum {
+        hash = (hash ^ entry.unsigned_abs()).wrapping_mul(0x9E37_79B9_7F4A_7C15);
+        hash ^= hash >> 29;
     }
-    hash >> 20
+    (hash % 4096) as usize
 }
 
 /// Which of some places has a listed row that is below a sum.
@@ -140,7 +138,7 @@ fn take_places(
     if !stage.sum_into(f, g, sum) {
         return;
     }
-    let slot = hints.slot(sum);
+    let slot = slot_of(sum);
     if hints.is_found(slot, rows, sum) {
         return;
     }
@@ -151,8 +149,8 @@ fn take_places(
         hints.remember(id);
         return;
     }
-    let id = rows.push(sum);
-    hints.put(slot, id);
+    let place = rows.push(sum);
+    hints.note_found(slot, place);
 }
 
 /// Takes in the sum of the pair with a number, where it has one that is irreducible.
@@ -215,20 +213,8 @@ fn take_open(
     pair.number + 1
 }
 
-/// A place before which all open pairs have numbers below `first`: where the last range ended, if it is one.
-fn open_from(pairs: &[OpenPair], first: u64, ended: usize) -> usize
-    requires { IsNonDecreasingBy open_number pairs.now }
-    ensures within { result ≤ length pairs.now }
-    ensures before { (k : ℕ) (d : OpenPair) → k < result → open_number (slice_index_or pairs.now k d) < first }
-{
-    if ended > 0 && ended <= pairs.len() && pairs[ended - 1].number < first {
-        return ended;
-    }
-    search_from(pairs, first)
-}
-
-/// The same, by halves.
-fn search_from(pairs: &[OpenPair], first: u64) -> usize
+/// A place before which all open pairs have numbers below `first`.
+fn open_from(pairs: &[OpenPair], first: u64) -> usize
     requires { IsNonDecreasingBy open_number pairs.now }
     ensures within { result ≤ length pairs.now }
     ensures before { (k : ℕ) (d : OpenPair) → k < result → open_number (slice_index_or pairs.now k d) < first }
@@ -271,12 +257,11 @@ pub fn take_opened(
     let pairs = &opened.pairs;
     let to = first + count;
     let mut done = first;
-    let mut k = open_from(pairs, first, hints.ended);
+    let mut k = open_from(pairs, first);
     while k < pairs.len() && pairs[k].number < to {
         done = take_open(stage, opened.norm, pairs[k], done, hints, sum, rows);
         k += 1;
     }
-    hints.ended = k;
 }
 
 /// Takes in the sums of the pairs with the numbers from `first` on, `count` of them.
@@ -315,7 +300,7 @@ pub fn gather_all(alloc: Global, stage: &Stage, norm: u64, pairs: u64) -> Result
 {
     stage.keeps();
     let width = stage.system().width() + 1;
-    let mut hints = Hints::new(alloc, pairs)?;
+    let mut hints = Hints::new(alloc)?;
     let mut sum: Vec<i64> = vec![in alloc; 0; width as usize]?;
     let mut rows = Pool::new(alloc, width);
     let mut first = 0;

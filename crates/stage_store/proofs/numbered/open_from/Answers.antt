@@ -1,9 +1,10 @@
-use Rattle.std.proofs.Common.{◌-◌, arith}
+use Rattle.std.proofs.Common.{ℕ, ◌+◌, ◌-◌, ◌/◌, ◌<◌, length, arith}
 use Rattle.stage_store.proofs.NumberedSums.{all_before}
 use Rattle.stage_store.proofs.numbered.open_from.Goals as goal
 
-pub returns-then-pairs-ended-clause-before : goal.returns-then-pairs-ended-clause-before
-returns-then-pairs-ended-clause-before c = λ k d l.
-    all_before c.args.pairs.now (c.args.ended - 1) c.args.first _ c.requires
-    (omega (arith, c.if-ended-gt0.true, c.if-ended-pairs.true)) c.if-pairs-ended.true k d
-    (omega (arith, l, c.if-ended-gt0.true))
+pub loop-low-preserved-then-pairs-middle : goal.loop-low-preserved-then-pairs-middle
+loop-low-preserved-then-pairs-middle c = record {
+  order = omega (arith, c.loop-low-test.true);
+  within = c.loop-low.invariant.within;
+  before = all_before c.args.pairs.now (c.loop-low.low + (c.loop-low.high - c.loop-low.low) / 2) c.args.first _ c.requires (omega (arith, c.loop-low-test.true, c.loop-low.invariant.within)) c.if-pairs-middle.true;
+}

@@ -2,7 +2,6 @@ use Rattle.std.proofs.Common.{◌≡◌, ℕ, ◌+◌, ◌≤◌, ◌<◌, ◌�
 use Rattle.stage_store.specs.Numbered.{GainsNumbered}
 use Rattle.stage_store.proofs.NumberedSums.{gains_more, gains_gap, gap_before, gap_at, before_more, open_at, same_open}
 use Rattle.stage_store.proofs.numbered.take_opened.Goals as goal
-use Rattle.stage_store.proofs.numbered.take_opened.Goals.{then-loop-k-test+else-index-to, else-loop-k-test}
 
 pub take_open-done-requires-clause-none : goal.take_open-done-requires-clause-none
 take_open-done-requires-clause-none c =
@@ -35,25 +34,17 @@ loop-k-preserved c =
       gains = gains_more c.args.stage.now c.args.opened.now.norm c.args.first c.loop-k.done c.take_open-done.result c.args.rows.now.rows c.loop-k.rows.rows c.take_open-done.new.rows.rows v.from t.from v.gains t.gains;
     }
 
-pub returns-clause-gains : goal.returns-clause-gains
-returns-clause-gains c =
-    let s = c.args.stage.now in
-    let e = c.args.opened.now.norm in
-    let opens = c.args.opened.now.pairs.items in
-    let k = c.loop-k.k in
-    let to : ℕ = c.args.first + c.args.count in
-    let rows = c.loop-k.rows.rows in
+pub returns-else-index-to-clause-gains : goal.returns-else-index-to-clause-gains
+returns-else-index-to-clause-gains c =
+    let l : c.loop-k.k < length c.args.opened.now.pairs.items = omega (arith, c.loop-k-test.true, c.len.ensures) in
     let v = c.loop-k.invariant in
-    elim c.loop-k-test.branch [
-      | then-loop-k-test+else-index-to w ↦
-          let l : k < length opens = omega (arith, w.loop-k-test.true, c.len.ensures) in
-          gains_more s e c.args.first c.loop-k.done to c.args.rows.now.rows rows rows v.from v.to v.gains
-          (gains_gap s e c.loop-k.done to rows
-          (gap_at s e opens k c.loop-k.done to w.index.result.now c.requires.opens l w.index.ensures
-          w.if-index-to.false c.requires.inside v.before))
-      | else-loop-k-test w ↦
-          gains_more s e c.args.first c.loop-k.done to c.args.rows.now.rows rows rows v.from v.to v.gains
-          (gains_gap s e c.loop-k.done to rows
-          (gap_before s e opens k c.loop-k.done to c.requires.opens c.requires.inside v.before
-          (λ d m. omega (arith, w.loop-k-test.false, c.len.ensures, m))))
-    ]
+    gains_more c.args.stage.now c.args.opened.now.norm c.args.first c.loop-k.done (c.args.first + c.args.count) c.args.rows.now.rows c.loop-k.rows.rows c.loop-k.rows.rows v.from v.to v.gains
+    (gains_gap c.args.stage.now c.args.opened.now.norm c.loop-k.done (c.args.first + c.args.count) c.loop-k.rows.rows
+    (gap_at c.args.stage.now c.args.opened.now.norm c.args.opened.now.pairs.items c.loop-k.k c.loop-k.done (c.args.first + c.args.count) c.index.result.now c.requires.opens l c.index.ensures c.if-index-to.false c.requires.inside v.before))
+
+pub returns-after-loop-k-clause-gains : goal.returns-after-loop-k-clause-gains
+returns-after-loop-k-clause-gains c =
+    let v = c.loop-k.invariant in
+    gains_more c.args.stage.now c.args.opened.now.norm c.args.first c.loop-k.done (c.args.first + c.args.count) c.args.rows.now.rows c.loop-k.rows.rows c.loop-k.rows.rows v.from v.to v.gains
+    (gains_gap c.args.stage.now c.args.opened.now.norm c.loop-k.done (c.args.first + c.args.count) c.loop-k.rows.rows
+    (gap_before c.args.stage.now c.args.opened.now.norm c.args.opened.now.pairs.items c.loop-k.k c.loop-k.done (c.args.first + c.args.count) c.requires.opens c.requires.inside v.before (λ d m. omega (arith, c.loop-k-test.false, c.len.ensures, m))))

@@ -15,8 +15,8 @@ returns-then-is_reduced-clause-gains c =
 
 pub returns-clause-gains : goal.returns-clause-gains
 returns-clause-gains c =
-    pushed c.args.stage.now c.args.norm c.args.p c.args.f.0 c.args.g.0 c.requires.at c.args.rows.now.rows c.push-id.new.self.rows c.sum_into.new.out
-    (c.if-not-sum_into.ensures.sum.0 refl) (c.if-not-sum_into.ensures.is refl) c.in_default.ensures c.push-id.ensures.rows
+    pushed c.args.stage.now c.args.norm c.args.p c.args.f.0 c.args.g.0 c.requires.at c.args.rows.now.rows c.push-place.new.self.rows c.sum_into.new.out
+    (c.if-not-sum_into.ensures.sum.0 refl) (c.if-not-sum_into.ensures.is refl) c.in_default.ensures c.push-place.ensures.rows
 
 pub returns-then-is_found-clause-gains : goal.returns-then-is_found-clause-gains
 returns-then-is_found-clause-gains c =

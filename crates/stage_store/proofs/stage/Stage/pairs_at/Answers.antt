@@ -1,17 +1,15 @@
-use Rattle.std.proofs.Common.{arith}
+use Rattle.std.proofs.Common.{◌≡◌, rules, arith, refl, length}
+use Rattle.lift_core.specs.Stages.{has_positive_last, has_negative_last}
+use Rattle.stage_store.specs.Classes.{AreClasses, pairs_of}
+use Rattle.stage_store.specs.Stage.{IsStage}
+use Rattle.stage_store.proofs.Held.{classes_of, stage_of}
 use Rattle.stage_store.proofs.Pairs.{parts_small, pairs_count}
 use Rattle.stage_store.proofs.stage.Stage.pairs_at.Goals as goal
 
 pub returns-then-self-norm-clause-most : goal.returns-then-self-norm-clause-most
 returns-then-self-norm-clause-most c =
-    let v = c.self.invariant in
-    let listed = c.self.inside.listed.rows in
-    let plus = c.self.inside.plus.items in
-    let minus = c.self.inside.minus.items in
-    let e = c.self.inside.counted.norm in
-    omega (
-      arith,
-      v.counted_is c.if-self.true,
-      pairs_count listed plus minus e v.plus_classes v.minus_classes,
-      parts_small listed plus minus e v.plus_classes v.minus_classes v.stage.listed_length,
-    )
+    let s : IsStage c.args.self.now = stage_of c.self.view_is c.self.invariant.stage in
+    let p : AreClasses c.args.self.now.listed has_positive_last c.self.inside.plus.items = classes_of has_positive_last c.self.view_is refl c.self.invariant.plus_classes in
+    let m : AreClasses c.args.self.now.listed has_negative_last c.self.inside.minus.items = classes_of has_negative_last c.self.view_is refl c.self.invariant.minus_classes in
+    let n : c.self.inside.counted.pairs ≡ length (pairs_of c.args.self.now.listed c.args.norm) = search rules in
+    omega (arith, n, pairs_count c.args.self.now.listed c.self.inside.plus.items c.self.inside.minus.items c.args.norm p m, parts_small c.args.self.now.listed c.self.inside.plus.items c.self.inside.minus.items c.args.norm p m s.listed_length)

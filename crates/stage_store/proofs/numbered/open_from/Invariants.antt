@@ -1,7 +1,7 @@
 use Rattle.std.proofs.Common.{ℕ, ◌-◌, ◌≤◌, ◌<◌, length, slice_index_or}
 use Rattle.stage_store.specs.declared.opened.OpenPair.{OpenPair}
 use Rattle.stage_store.specs.Opened.{open_number}
-use Rattle.stage_store.proofs.numbered.search_from.Given as goal
+use Rattle.stage_store.proofs.numbered.open_from.Given as goal
 
 abbrev pub invariant-loop-low : goal.invariant-loop-low
 invariant-loop-low l = record {
