@@ -1,10 +1,10 @@
 -- The levels that a row bars: a partner that reaches one of them makes no irreducible sum with it.
-use Rattle.std.proofs.Common.{◌≡◌, ℕ, zero, suc, ◌+◌, ◌*◌, ◌/◌, ◌%◌, ◌^◌, ◌≤◌, ◌<◌, List, [], ◌∷◌, ◌++◌, length, get_or, set, take, refl, ap, ap₂, sym, ◌∙◌, subst, subst₂, arith, inl, inr, ◌⊎◌, Bool, true, false, Option, Some, None}
+use Rattle.std.proofs.Common.{◌≡◌, ℕ, zero, suc, ◌+◌, ◌/◌, ◌%◌, ◌^◌, ◌≤◌, ◌<◌, List, [], ◌∷◌, ◌++◌, length, get_or, set, refl, ap, sym, ◌∙◌, subst, subst₂, arith, inl, inr, Bool, true, false, Option, Some, None}
 use Rattle.std.specs.Prelude.{ℤ, pos, ◌<ℤ◌, ◌≤ℤ◌, ◌+ℤ◌, ◌-ℤ◌, ◌*ℤ◌, neg_ℤ, nat_abs, int_lt, cond, not}
 use Rattle.std.specs.List.{Contains, AllZip}
-use Rattle.std.proofs.lemmas.Bool.{cases_lt, cases_eq, cases_Bool}
+use Rattle.std.proofs.lemmas.Bool.{cases_eq, cases_Bool}
 use Rattle.std.proofs.lemmas.Int.{ints}
-use Rattle.std.proofs.lemmas.List.{get_or-set_same, get_or-set_other, length-set}
+use Rattle.std.proofs.lemmas.List.{get_or-set_same, get_or-set_other}
 use Rattle.std.proofs.lemmas.List.Elements.{Contains-append_left, Contains-get_or, AllZip-get_or}
 use Rattle.int_vector.specs.Vectors.{◌⊑◌, IsWithin}
 use Rattle.int_vector.specs.Operations.{add, AreConformal}
@@ -12,12 +12,10 @@ use Rattle.int_vector.proofs.Vectors.{below_trans}
 use Rattle.lift_core.specs.Systems.{LinearSystem, ObeysCaps}
 use Rattle.lift_core.specs.Columns.{IsCapped}
 use Rattle.lift_core.specs.Stages.{front, last}
-use Rattle.stage_store.specs.Classes.{row_at}
-use Rattle.stage_store.specs.Found.{IsReduced, IsSumOf}
 use Rattle.stage_store.specs.Signs.{IsSigned}
 use Rattle.stage_store.specs.Reaches.{entry_against, with_reach}
-use Rattle.stage_store.specs.Lines.{IsSaid, IsSaidLevel}
-use Rattle.stage_store.specs.Levels.{ReachesAt, MakesNone, BarsAt, BarsLine, ReachesLine, AreTrue, AreTrueTo, IsOnSide, IsAgainst, IsFull, IsRaised, IsNear, IsNearOr, IsBarLevel, IsReachLevel, is_plus}
+use Rattle.stage_store.specs.Lines.{IsSaidLevel}
+use Rattle.stage_store.specs.Levels.{ReachesAt, MakesNone, BarsAt, BarsLine, ReachesLine, AreTrueTo, IsOnSide, IsAgainst, IsFull, IsRaised, IsNear, IsNearOr, IsBarLevel, IsReachLevel, is_plus}
 use Rattle.stage_store.proofs.Reaches.{first_below, second_below}
 
 -- ---- single entries

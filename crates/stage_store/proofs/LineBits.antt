@@ -1,5 +1,5 @@
 -- Lines of bits: one row more is marked, one line more is read, one row more is told of.
-use Rattle.std.proofs.Common.{◌≡◌, ℕ, ◌+◌, ◌*◌, ◌/◌, ◌%◌, ◌^◌, ◌≤◌, ◌<◌, List, [], ◌∷◌, ◌++◌, length, get_or, set, Bool, refl, sym, ap, ◌∙◌, subst, arith, inl, inr, ◌⊎◌, max, length-append}
+use Rattle.std.proofs.Common.{◌≡◌, ℕ, ◌+◌, ◌*◌, ◌/◌, ◌%◌, ◌^◌, ◌<◌, List, [], ◌∷◌, ◌++◌, length, get_or, Bool, sym, ap, ◌∙◌, subst, arith, inl, inr, ◌⊎◌, max, length-append}
 use Rattle.std.specs.Prelude.{ℤ, bit_or}
 use Rattle.std.specs.Int.{bit_at, w64}
 use Rattle.std.proofs.lemmas.Bool.{cases_eq, cases_lt}

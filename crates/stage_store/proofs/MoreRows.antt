@@ -1,21 +1,20 @@
 -- What was known of the listed rows stays true as more rows are listed.
-use Rattle.std.proofs.Common.{◌≡◌, ℕ, zero, suc, ◌+◌, ◌*◌, ◌≤◌, ◌<◌, List, [], ◌∷◌, ◌++◌, length, get_or, take, drop, refl, ap, ap₂, sym, ◌∙◌, subst, arith, inl, inr, ◌⊎◌, Bool, true, false, length-append}
+use Rattle.std.proofs.Common.{◌≡◌, ℕ, zero, suc, ◌+◌, ◌*◌, ◌≤◌, ◌<◌, List, [], ◌∷◌, ◌++◌, length, get_or, ap, ap₂, sym, ◌∙◌, subst, arith, inl, inr, Bool, true, false, length-append}
 use Rattle.std.specs.Prelude.{ℤ, IsTrue}
-use Rattle.std.specs.List.{AllByRecursion, Contains}
+use Rattle.std.specs.List.{AllByRecursion}
 use Rattle.std.proofs.lemmas.Bool.{cases_Bool}
-use Rattle.std.proofs.lemmas.List.{take-append-le, get_or_append_left, length-take-le}
+use Rattle.std.proofs.lemmas.List.{take-append-le, get_or_append_left}
 use Rattle.std.proofs.lemmas.List.Elements.{Contains-append_left}
 use Rattle.lift_core.specs.Systems.{LinearSystem}
-use Rattle.lift_core.specs.ToolSystems.{width}
 use Rattle.lift_core.specs.Stages.{stage_norm, has_positive_last, has_negative_last}
 use Rattle.stage_store.specs.declared.sieve.KeptPair.{KeptPair}
 use Rattle.stage_store.specs.declared.sieve.Table.{Table}
 use Rattle.stage_store.specs.declared.sieve.Sieve.{Sieve}
-use Rattle.stage_store.specs.Classes.{ClassValue, row_at, rows_at, places, with_class}
+use Rattle.stage_store.specs.Classes.{ClassValue, row_at, places, with_class}
 use Rattle.stage_store.specs.Levels.{BarsLine, ReachesLine, is_plus}
 use Rattle.stage_store.proofs.Levels.{bars_stay}
 use Rattle.stage_store.specs.Found.{IsSumOf}
-use Rattle.stage_store.specs.Sieve.{IsKept, HasNoNewSum, IsSiftedBy, IsGroup, IsTable, AreSifted, IsSieveTo, IsSieve, pair_by}
+use Rattle.stage_store.specs.Sieve.{IsKept, HasNoNewSum, IsGroup, IsTable, AreSifted, IsSieveTo, IsSieve, pair_by}
 use Rattle.stage_store.specs.Reaches.{IsReachOr}
 use Rattle.std.proofs.Common.{◌/◌, ◌%◌}
 use Rattle.stage_store.specs.Opened.{AreAscending, AscendWithin}

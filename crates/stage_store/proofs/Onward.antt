@@ -1,6 +1,6 @@
 -- The stage after a norm is closed: it is a stage, with the classes of its rows, and it is what `publish` promises.
 use Rattle.std.proofs.Common.{◌≡◌, ℕ, ◌+◌, ◌^◌, ◌≤◌, ◌<◌, List, [], ◌∷◌, ◌++◌, length, get_or, drop, refl, ap, ap₂, sym, ◌∙◌, subst, subst₂, arith, inl, inr, Bool, true, false, not, eqb, length-append, length-drop}
-use Rattle.std.specs.Prelude.{ℤ, Option, None}
+use Rattle.std.specs.Prelude.{ℤ}
 use Rattle.std.specs.List.{Contains, AllByRecursion, filter}
 use Rattle.std.proofs.lemmas.Bool.{cases_Bool, eqb-false, eq-eqb, not-true}
 use Rattle.std.proofs.lemmas.List.{drop-drop}
@@ -19,7 +19,6 @@ use Rattle.stage_store.specs.Classes.{ClassValue, AreClasses, with_class, pairs_
 use Rattle.stage_store.specs.Stage.{StageValue, IsStage, IsStageRow, IsDefined, used_of}
 use Rattle.stage_store.specs.Fields.{Holds}
 use Rattle.stage_store.specs.Sieve.{IsSieve}
-use Rattle.stage_store.specs.Opened.{IsAhead}
 use Rattle.stage_store.specs.declared.sieve.Sieve.{Sieve}
 use Rattle.stage_store.specs.declared.opened.Opened.{Opened}
 use Rattle.stage_store.specs.declared.stage.Following.{Following}

@@ -1,16 +1,16 @@
 -- The numbers of pairs, found by the classes.
-use Rattle.std.proofs.Common.{◌≡◌, ℕ, zero, suc, ◌+◌, ◌-◌, ◌*◌, ◌≤◌, ◌<◌, ◌^◌, List, [], ◌∷◌, ◌++◌, length, get_or, take, refl, ap, ap₂, sym, ◌∙◌, subst, arith, inl, inr, ◌⊎◌, length-append}
+use Rattle.std.proofs.Common.{◌≡◌, ℕ, suc, ◌+◌, ◌-◌, ◌*◌, ◌≤◌, ◌<◌, List, [], ◌∷◌, ◌++◌, length, get_or, take, refl, ap, ap₂, sym, ◌∙◌, subst, arith, inl, inr, ◌⊎◌}
 use Rattle.std.specs.Prelude.{ℤ, map}
-use Rattle.std.specs.List.{AllByRecursion, Contains, flat_map, sum_by}
+use Rattle.std.specs.List.{Contains, flat_map, sum_by}
 use Rattle.std.specs.List.Sorted.{IsStrictlySortedBy}
-use Rattle.std.proofs.lemmas.Bool.{cases_eq, cases_lt, cases_order}
+use Rattle.std.proofs.lemmas.Bool.{cases_lt, cases_order}
 use Rattle.std.proofs.lemmas.List.{get_or_append_left, get_or-append-add}
 use Rattle.std.proofs.lemmas.List.Elements.{Contains-append_cases, Contains-get_or}
 use Rattle.std.proofs.lemmas.List.Sums.{sum_by_more_le}
 use Rattle.lift_core.proofs.Lists.{contains_head, contains_tail, contains_nothing}
 use Rattle.lift_core.proofs.Orders.{from_map}
 use Rattle.stage_store.specs.Classes.{ClassValue, class_cmp, norm_at, ids_at, part_size, id_part, ids_of}
-use Rattle.std.proofs.Common.{Bool, true, false, Result, Ok, Err, subst₂}
+use Rattle.std.proofs.Common.{Bool, true, Result, Err, subst₂}
 use Rattle.std.specs.Prelude.{Option, Some, None, MatchOption, MatchResult, ◌==◌}
 use Rattle.std.specs.Ordering.{nat_cmp}
 use Rattle.std.specs.List.Sorted.{IsBinarySearchResult, IsPermutation}
@@ -37,7 +37,7 @@ use Rattle.stage_store.specs.declared.sieve.Sieve.{Sieve}
 use Rattle.stage_store.proofs.Pairs.{rows_two, pairs_is, pairs_count, pair_found}
 use Rattle.stage_store.proofs.Numbering.{numbered, stand_once}
 use Rattle.stage_store.proofs.Held.{less_is}
-use Rattle.stage_store.specs.Opened.{IsOpen, open_number, AreOpened, IsNotNumbered, IsNumbered, IsAmongOpen, AreStarts, IsClassOf, HasNoClass, IsPlacedIn, IsNumberOf, HasNoNumber, AreAscending, AscendWithin}
+use Rattle.stage_store.specs.Opened.{IsOpen, open_number, AreOpened, IsNotNumbered, IsNumbered, AreStarts, IsClassOf, HasNoClass, IsPlacedIn, IsNumberOf, HasNoNumber, AreAscending, AscendWithin}
 use Rattle.stage_store.proofs.Classes.{IsPlaceFrom, sorted_at, each_at}
 use Rattle.stage_store.proofs.Pairs.{pair_at, ids_of-length}
 

@@ -1,23 +1,19 @@
 -- The sieve: a pair that is kept stays kept, and a pair that is passed over has no irreducible sum.
-use Rattle.std.proofs.Common.{◌≡◌, ℕ, zero, suc, ◌+◌, ◌-◌, ◌*◌, ◌/◌, ◌%◌, ◌≤◌, ◌<◌, List, [], ◌∷◌, ◌++◌, length, get_or, take, drop, refl, ap, sym, ◌∙◌, subst, arith, inl, inr, ◌⊎◌, Bool, true, false}
-use Rattle.std.proofs.Common.{min, length-drop, get_or-drop, get_or-take, subst₂, length-take}
-use Rattle.std.specs.Prelude.{ℤ, pos, ◌≤ℤ◌, ◌<ℤ◌, ◌*ℤ◌}
+use Rattle.std.proofs.Common.{◌≡◌, ℕ, ◌+◌, ◌-◌, ◌*◌, ◌≤◌, ◌<◌, List, [], length, get_or, take, drop, ap, sym, ◌∙◌, subst, arith, inl, inr, Bool, true, false}
+use Rattle.std.proofs.Common.{min, length-drop, get_or-drop, get_or-take, subst₂}
+use Rattle.std.specs.Prelude.{ℤ}
 use Rattle.std.specs.Int.{bit_at}
-use Rattle.std.specs.List.{AllByRecursion, Contains}
+use Rattle.std.specs.List.{AllByRecursion}
 use Rattle.std.proofs.lemmas.Bool.{cases_lt, cases_eq}
 use Rattle.std.proofs.lemmas.Int.{ints}
-use Rattle.std.proofs.lemmas.List.{get_or-map, length-map, length-take-le}
-use Rattle.std.proofs.lemmas.List.Elements.{AllZip-get_or}
-use Rattle.int_vector.specs.Operations.{AreConformal}
+use Rattle.std.proofs.lemmas.List.{length-take-le}
 use Rattle.lift_core.specs.Systems.{LinearSystem}
-use Rattle.lift_core.specs.Inside.PairSums.{HasSum}
-use Rattle.lift_core.specs.Stages.{has_positive_last, has_negative_last, stage_norm}
-use Rattle.lift_core.proofs.Stages.{front-take}
+use Rattle.lift_core.specs.Stages.{has_positive_last, has_negative_last}
 use Rattle.stage_store.specs.declared.sieve.Group.{Group}
 use Rattle.stage_store.specs.declared.sieve.Room.{Room}
 use Rattle.lift_core.specs.ToolSystems.{width}
 use Rattle.stage_store.specs.Levels.{MakesNone}
-use Rattle.stage_store.specs.Classes.{row_at, rows_at, places}
+use Rattle.stage_store.specs.Classes.{row_at, places}
 use Rattle.stage_store.specs.declared.sieve.Sieve.{Sieve}
 use Rattle.stage_store.specs.Sieve.{AreSifted, IsTable, IsSieveTo, IsSieve, IsNewSieve, IsKept, Stay, HasNoNewSumBy, IsSiftedBy, AreSiftedBy, AreWide, IsGroup, IsSized, IsDead, AreAsked, pair_by}
 use Rattle.stage_store.proofs.Tables.{has_place, no_table, table_less}

@@ -1,6 +1,6 @@
 -- A stage at norm 0 is a stage, and its lists are the defined ones where its solutions are.
 use Rattle.std.proofs.Common.{◌≡◌, ℕ, suc, ◌+◌, ◌-◌, ◌*◌, ◌^◌, ◌≤◌, ◌<◌, List, [], ◌∷◌, length, refl, ap, ap₂, sym, ◌∙◌, subst, subst₂, arith, Bool, length-append}
-use Rattle.std.specs.Prelude.{ℤ, map, Result, Ok, Err, IfOk, Option, None}
+use Rattle.std.specs.Prelude.{ℤ, map, Result, Ok, Err, IfOk}
 use Rattle.std.specs.List.{All, Contains, AllByRecursion}
 use Rattle.std.proofs.lemmas.List.Elements.{All-get_or}
 use Rattle.std.specs.List.Sorted.{IsStrictlySortedBy}
@@ -25,7 +25,7 @@ use Rattle.stage_store.specs.Classes.{ClassValue, AreClasses}
 use Rattle.stage_store.specs.Stage.{StageValue, IsStage, IsStageRow, IsDefined, used_of}
 use Rattle.stage_store.specs.Fields.{Holds}
 use Rattle.stage_store.specs.Sieve.{IsNewSieve}
-use Rattle.stage_store.specs.Opened.{AscendWithin, IsAhead}
+use Rattle.stage_store.specs.Opened.{AscendWithin}
 use Rattle.stage_store.specs.declared.sieve.Sieve.{Sieve}
 use Rattle.std.specs.Prelude.{false}
 use Rattle.stage_store.specs.declared.opened.Opened.{Opened}

@@ -1,7 +1,7 @@
 -- The places of the rows that pass a test, and lines over each 64 of them, as more rows come.
-use Rattle.std.proofs.Common.{◌≡◌, ℕ, zero, suc, ◌+◌, ◌-◌, ◌*◌, ◌/◌, ◌%◌, ◌≤◌, ◌<◌, List, [], ◌∷◌, ◌++◌, length, get_or, take, drop, refl, ap, ap₂, sym, ◌∙◌, subst, subst₂, arith, inl, inr, ◌⊎◌, Bool, true, false, cond, min, length-append, length-drop}
-use Rattle.std.specs.Prelude.{ℤ, map, Result, Ok, Err, OnOk}
-use Rattle.std.specs.List.{AllByRecursion, Contains}
+use Rattle.std.proofs.Common.{◌≡◌, ℕ, zero, suc, ◌+◌, ◌-◌, ◌*◌, ◌/◌, ◌≤◌, ◌<◌, List, [], ◌∷◌, ◌++◌, length, get_or, take, drop, ap, sym, ◌∙◌, subst, subst₂, arith, inl, inr, Bool, true, false, cond, min, length-append, length-drop}
+use Rattle.std.specs.Prelude.{ℤ, Result, Ok, Err, OnOk}
+use Rattle.std.specs.List.{AllByRecursion}
 use Rattle.std.proofs.lemmas.Bool.{cases_Bool, cases_lt, cases_eq}
 use Rattle.std.proofs.lemmas.List.{take_more, take_all, append-nil, length-take-le, get_or_append_left, get_or-append-add}
 use Rattle.stage_store.specs.declared.sieve.Group.{Group}
@@ -12,9 +12,9 @@ use Rattle.std.proofs.lemmas.Grind.{get_or-set_at}
 use Rattle.std.proofs.Common.{set}
 use Rattle.stage_store.specs.Lines.{MarksRow}
 use Rattle.stage_store.specs.Levels.{AreTrue}
-use Rattle.stage_store.specs.Classes.{row_at, rows_at, places}
-use Rattle.std.proofs.Common.{◌^◌, get_or-take}
-use Rattle.std.proofs.lemmas.List.{take-append-drop, take-append-le}
+use Rattle.stage_store.specs.Classes.{row_at, places}
+use Rattle.std.proofs.Common.{◌^◌}
+use Rattle.std.proofs.lemmas.List.{take-append-drop}
 use Rattle.lift_core.specs.Systems.{LinearSystem}
 use Rattle.lift_core.specs.ToolSystems.{width}
 use Rattle.stage_store.specs.declared.sieve.Table.{Table}

@@ -1,6 +1,6 @@
 -- What a row says of the eight levels of an item, which is a column with a sign: the amounts 1, 2, 4 to 128 that its
 -- entry reaches, and those of a partner's entry that bar a new sum.
-use Rattle.std.specs.Prelude.{◌≡◌, ℕ, ◌+◌, ◌*◌, ◌/◌, ◌%◌, ◌<◌, ◌≤◌, ◌^◌, Bool, true, false, ℤ, pos, ◌+ℤ◌, ◌<ℤ◌, ◌≤ℤ◌, nat_abs, List, [], length, slice_index_or, slice_set, Option, Some, None, ◌==◌}
+use Rattle.std.specs.Prelude.{◌≡◌, ℕ, ◌*◌, ◌/◌, ◌%◌, ◌<◌, ◌≤◌, ◌^◌, Bool, true, false, ℤ, pos, ◌+ℤ◌, ◌<ℤ◌, ◌≤ℤ◌, nat_abs, List, length, slice_index_or, slice_set, Option, Some, None, ◌==◌}
 use Rattle.lift_core.specs.Systems.{LinearSystem}
 use Rattle.int_vector.specs.Vectors.{IsWithin}
 use Rattle.stage_store.specs.Found.{IsSumOf, IsReduced}

@@ -1,5 +1,5 @@
 -- How far the last entries of two rows are apart where their sum has a listed row below it.
-use Rattle.std.specs.Prelude.{◌≡◌, ◌⊎◌, ℕ, ◌+◌, ◌<◌, ◌≤◌, List, [], ◌∷◌, ℤ, pos, ◌<ℤ◌, neg_ℤ, nat_abs, int_lt, cond, length, slice_index_or}
+use Rattle.std.specs.Prelude.{◌⊎◌, ℕ, ◌+◌, ◌<◌, ◌≤◌, List, [], ◌∷◌, ℤ, pos, ◌<ℤ◌, neg_ℤ, nat_abs, int_lt, cond, length, slice_index_or}
 use Rattle.stage_store.specs.Classes.{row_at}
 use Rattle.stage_store.specs.Found.{IsReduced}
 

@@ -1,12 +1,12 @@
 -- The sieve: which pairs of listed rows may have an irreducible sum. What it says is one-sided: a pair that is kept may
 -- have none, and one that is not kept has none.
-use Rattle.std.specs.Prelude.{◌≡◌, ◌⊎◌, ℕ, ◌+◌, ◌*◌, ◌/◌, ◌%◌, ◌<◌, ◌≤◌, ◌^◌, List, [], ◌∷◌, ℤ, pos, ◌<ℤ◌, neg_ℤ, nat_abs, int_lt, cond, Bool, true, false, length, take, drop, slice_index_or}
+use Rattle.std.specs.Prelude.{◌≡◌, ◌⊎◌, ℕ, ◌+◌, ◌*◌, ◌/◌, ◌%◌, ◌<◌, ◌≤◌, List, [], ℤ, Bool, true, false, length, take, slice_index_or}
 use Rattle.std.specs.List.{AllByRecursion, Contains}
 use Rattle.lift_core.specs.Systems.{LinearSystem}
 use Rattle.lift_core.specs.ToolSystems.{width}
 use Rattle.lift_core.specs.Stages.{stage_norm, has_positive_last, has_negative_last}
 use Rattle.int_vector.specs.Vectors.{largest}
-use Rattle.stage_store.specs.Classes.{row_at, rows_at, places}
+use Rattle.stage_store.specs.Classes.{row_at, places}
 use Rattle.std.specs.Int.{bit_at}
 use Rattle.stage_store.specs.Lines.{Tell, HasBit}
 use Rattle.stage_store.specs.Levels.{BarsLine, ReachesLine, AreTrue}

@@ -4,7 +4,7 @@ use Rattle.std.specs.List.{AllByRecursion}
 use Rattle.std.specs.List.Sorted.{IsStrictlySortedBy}
 use Rattle.lift_core.specs.Systems.{LinearSystem, ToolSystem}
 use Rattle.lift_core.specs.ToolSystems.{IsToolSystem, width}
-use Rattle.lift_core.specs.Stages.{IsStageVector, stage_norm, norm_cmp, IsListed, IsWaiting, pairs_within, has_positive_last, has_negative_last, AreUsed}
+use Rattle.lift_core.specs.Stages.{IsStageVector, stage_norm, norm_cmp, IsListed, IsWaiting, pairs_within, AreUsed}
 use Rattle.int_vector.specs.Vectors.{largest}
 
 pub record StageValue : Type 0 where

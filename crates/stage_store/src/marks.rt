@@ -39,7 +39,11 @@ fn raised_up(entry: i64, level: u8) -> i64
     requires side { pos 0 ≤ℤ entry }
     ensures { IsRaised true level entry result }
 {
-    if entry <= EDGE { entry + amount(level) as i64 } else { entry }
+    if entry <= EDGE {
+        entry + amount(level) as i64
+    } else {
+        entry
+    }
 }
 
 /// The entry with the amount of a level less; near the end of the range, itself.
@@ -48,7 +52,11 @@ fn raised_down(entry: i64, level: u8) -> i64
     requires side { entry ≤ℤ pos 0 }
     ensures { IsRaised false level entry result }
 {
-    if entry >= -EDGE { entry - amount(level) as i64 } else { entry }
+    if entry >= -EDGE {
+        entry - amount(level) as i64
+    } else {
+        entry
+    }
 }
 
 /// The entry with the amount of a level more on the side of a sign.
@@ -57,7 +65,11 @@ fn raised(entry: i64, positive: bool, level: u8) -> i64
     requires side { IsOnSide positive entry }
     ensures { IsRaised positive level entry result }
 {
-    if positive { raised_up(entry, level) } else { raised_down(entry, level) }
+    if positive {
+        raised_up(entry, level)
+    } else {
+        raised_down(entry, level)
+    }
 }
 
 /// Writes the row with last entry 0 and the amount of a level more.

@@ -352,13 +352,7 @@ impl Table {
     }
 
     /// Takes in a row, with what it bars and reaches.
-    fn push(
-        &mut self,
-        alloc: Global,
-        i: u32,
-        bars: &[u8],
-        reached: &[u8],
-    ) -> Result<(), AllocError>
+    fn push(&mut self, alloc: Global, i: u32, bars: &[u8], reached: &[u8]) -> Result<(), AllocError>
         requires few { length bars.now ≤ 260 }
         requires lengths { length bars.now ≡ length reached.now }
         requires count { length self.old.groups.items ≡ (length self.old.ids.items + 63) / 64 }
@@ -397,13 +391,7 @@ impl Room {
     }
 
     /// Asks a row.
-    fn ask(
-        &mut self,
-        system: &System,
-        listed: &Pool,
-        tree: &Tree,
-        i: u32,
-    ) -> Result<(), AllocError>
+    fn ask(&mut self, system: &System, listed: &Pool, tree: &Tree, i: u32) -> Result<(), AllocError>
         requires indexed { HoldsRows tree.now listed.now }
         requires width { listed.now.width ≡ width system.now.equations + 1 }
         requires row { i < length listed.now.rows }
@@ -452,9 +440,7 @@ fn sift_row(
         let to = table.ids.len().min(from + 64);
         let dead = table.groups[group].dead(&room.bar_reads, &room.reach_reads);
         let others = &table.ids[from..to];
-        sift_group(
-            shelves, system, listed, reaches, positive, i, others, dead,
-        )?;
+        sift_group(shelves, system, listed, reaches, positive, i, others, dead)?;
     }
     Ok(())
 }

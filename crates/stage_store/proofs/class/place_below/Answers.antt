@@ -1,4 +1,4 @@
-use Rattle.std.proofs.Common.{ℕ, ◌≤◌, ◌<◌, ◌-◌, length, arith, inl, inr, ap, sym, ◌≡◌, subst}
+use Rattle.std.proofs.Common.{ℕ, ◌<◌, ◌-◌, length, arith, inl, inr, ap, sym, ◌≡◌, subst}
 use Rattle.std.proofs.lemmas.Bool.{cases_eq}
 use Rattle.stage_store.specs.Classes.{norm_at, class_norm}
 use Rattle.stage_store.proofs.Classes.{class_at, sorted_at}

@@ -1,4 +1,4 @@
-use Rattle.std.proofs.Common.{ℕ, ◌≤◌, length}
+use Rattle.std.proofs.Common.{◌≤◌, length}
 use Rattle.stage_store.proofs.class.place_below.Given as goal
 
 abbrev pub invariant-loop-place : goal.invariant-loop-place

@@ -1,4 +1,4 @@
-use Rattle.std.proofs.Common.{◌≡◌, ◌∙◌, ap, sym, subst, arith, List, ℕ}
+use Rattle.std.proofs.Common.{◌∙◌, ap, sym, subst, arith, List, ℕ}
 use Rattle.stage_store.specs.Lines.{AreSaid}
 use Rattle.stage_store.proofs.LineBits.{said_more}
 use Rattle.stage_store.proofs.lines.take_said.Goals as goal

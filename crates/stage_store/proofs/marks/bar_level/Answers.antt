@@ -1,4 +1,4 @@
-use Rattle.std.proofs.Common.{◌≡◌, ◌∙◌, ◌+◌, ◌-◌, ◌<◌, ℕ, ap, refl, sym, rules, arith, length, get_or, SFits, w64, to_z-of_z, None, false, true}
+use Rattle.std.proofs.Common.{◌≡◌, ◌∙◌, ◌+◌, ◌<◌, ap, refl, sym, rules, arith, length, get_or, SFits, w64, to_z-of_z, None, false}
 use Rattle.std.specs.Prelude.{pos, IsTrue}
 use Rattle.stage_store.specs.Levels.{IsAgainst, IsOnSide, IsFull}
 use Rattle.stage_store.proofs.Levels.{every_level, bars_against, bars_full, level_near, on_side}

@@ -1,4 +1,4 @@
-use Rattle.std.proofs.Common.{◌≡◌, ◌∙◌, ◌/◌, length, true, arith}
+use Rattle.std.proofs.Common.{◌∙◌, true, arith}
 use Rattle.std.proofs.lemmas.List.{length-set}
 use Rattle.stage_store.specs.Levels.{BarsLine}
 use Rattle.stage_store.proofs.Levels.{true_more, bar_item}

@@ -1,4 +1,4 @@
-use Rattle.std.proofs.Common.{◌≡◌, ◌∙◌, length, false, arith}
+use Rattle.std.proofs.Common.{◌∙◌, false, arith}
 use Rattle.std.proofs.lemmas.List.{length-set}
 use Rattle.stage_store.specs.Levels.{ReachesLine}
 use Rattle.stage_store.proofs.Levels.{true_more, reach_item}

@@ -1,4 +1,4 @@
-use Rattle.std.proofs.Common.{◌∙◌, arith, refl}
+use Rattle.std.proofs.Common.{◌∙◌, arith}
 use Rattle.stage_store.proofs.Levels.{row_contained}
 use Rattle.stage_store.proofs.marks.settle.Goals as goal
 

@@ -1,5 +1,4 @@
-use Rattle.std.proofs.Common.{◌≡◌, ◌∙◌, ◌≤◌, ◌+◌, ℕ, arith, ap, subst, sym, length, length-append, length-drop, [], take, drop, ◌++◌}
-use Rattle.std.proofs.lemmas.List.{length-take-le}
+use Rattle.std.proofs.Common.{◌∙◌, ◌+◌, ℕ, arith, ap, subst, sym, length, []}
 use Rattle.stage_store.specs.Numbered.{GainsNumbered}
 use Rattle.stage_store.proofs.NumberedSums.{gains_more, written_length}
 use Rattle.stage_store.proofs.numbered.gather_all.Goals as goal

@@ -1,4 +1,4 @@
-use Rattle.std.proofs.Common.{ℕ, ◌+◌, ◌-◌, ◌/◌, ◌<◌, length, arith}
+use Rattle.std.proofs.Common.{◌+◌, ◌-◌, ◌/◌, arith}
 use Rattle.stage_store.proofs.NumberedSums.{all_before}
 use Rattle.stage_store.proofs.numbered.open_from.Goals as goal
 

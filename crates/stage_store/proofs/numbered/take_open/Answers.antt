@@ -1,4 +1,4 @@
-use Rattle.std.proofs.Common.{◌≡◌, ◌+◌, ◌≤◌, arith, inl, inr, subst}
+use Rattle.std.proofs.Common.{◌+◌, arith}
 use Rattle.stage_store.proofs.NumberedSums.{gains_nothing, gains_more, gains_gap}
 use Rattle.stage_store.proofs.numbered.take_open.Goals as goal
 

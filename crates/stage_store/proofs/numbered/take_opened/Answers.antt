@@ -1,5 +1,4 @@
-use Rattle.std.proofs.Common.{◌≡◌, ℕ, ◌+◌, ◌≤◌, ◌<◌, ◌∙◌, length, arith, ap, sym, subst, inl, inr}
-use Rattle.stage_store.specs.Numbered.{GainsNumbered}
+use Rattle.std.proofs.Common.{◌+◌, ◌<◌, ◌∙◌, length, arith, inl, inr}
 use Rattle.stage_store.proofs.NumberedSums.{gains_more, gains_gap, gap_before, gap_at, before_more, open_at, same_open}
 use Rattle.stage_store.proofs.numbered.take_opened.Goals as goal
 

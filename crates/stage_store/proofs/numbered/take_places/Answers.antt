@@ -1,5 +1,5 @@
 use Rattle.std.proofs.Common.{refl, arith}
-use Rattle.stage_store.proofs.NumberedSums.{no_sum, reducible, reduced, found_before, pushed}
+use Rattle.stage_store.proofs.NumberedSums.{reduced, found_before, pushed}
 use Rattle.stage_store.proofs.Numbering.{pair_placed}
 use Rattle.stage_store.proofs.numbered.take_places.Goals as goal
 

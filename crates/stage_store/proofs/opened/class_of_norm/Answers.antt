@@ -1,5 +1,5 @@
-use Rattle.std.proofs.Common.{ℕ, arith, ap, sym, ◌∙◌, ◌≡◌}
-use Rattle.stage_store.specs.Classes.{norm_at, class_norm}
+use Rattle.std.proofs.Common.{ℕ, arith, ap, ◌∙◌}
+use Rattle.stage_store.specs.Classes.{class_norm}
 use Rattle.stage_store.proofs.Classes.{class_at, IsPlaceFrom}
 use Rattle.stage_store.proofs.Opening.{no_class_of}
 use Rattle.stage_store.proofs.opened.class_of_norm.Goals as goal

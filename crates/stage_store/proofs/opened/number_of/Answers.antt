@@ -1,9 +1,8 @@
-use Rattle.std.proofs.Common.{ℕ, List, arith, ap, sym, refl, ◌∙◌, ◌≡◌, ◌-◌, subst, get_or}
-use Rattle.std.specs.Prelude.{MatchOption}
+use Rattle.std.proofs.Common.{ℕ, List, ap, sym, refl, ◌∙◌, ◌≡◌, ◌-◌, subst, get_or}
 use Rattle.stage_store.specs.Classes.{ids_at}
 use Rattle.stage_store.specs.Opened.{AreAscending}
 use Rattle.stage_store.proofs.Classes.{class_at, class_ids}
-use Rattle.stage_store.proofs.Opening.{ids_at_ascend, ids_ascend_at, number_found, number_missed, match_both, no_class}
+use Rattle.stage_store.proofs.Opening.{ids_at_ascend, number_found, number_missed, match_both, no_class}
 use Rattle.stage_store.proofs.opened.number_of.Goals as goal
 
 pub number_in-requires-clause-seconds : goal.number_in-requires-clause-seconds

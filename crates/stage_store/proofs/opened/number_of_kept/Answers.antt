@@ -1,4 +1,4 @@
-use Rattle.std.proofs.Common.{◌≡◌, ◌∙◌, ap, arith}
+use Rattle.std.proofs.Common.{◌∙◌, ap, arith}
 use Rattle.lift_core.specs.Stages.{stage_norm, has_positive_last}
 use Rattle.stage_store.proofs.Opening.{first_inside, not_numbered, match_both}
 use Rattle.stage_store.proofs.opened.number_of_kept.Goals as goal

@@ -1,4 +1,4 @@
-use Rattle.std.proofs.Common.{◌≡◌, ◌∙◌, arith}
+use Rattle.std.proofs.Common.{◌∙◌, arith}
 use Rattle.stage_store.proofs.Reaches.{far_rows}
 use Rattle.stage_store.proofs.sieve.are_far.Goals as goal
 

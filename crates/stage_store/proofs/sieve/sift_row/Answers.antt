@@ -1,7 +1,6 @@
-use Rattle.std.proofs.Common.{◌≡◌, ◌∙◌, ◌+◌, ◌-◌, ◌*◌, ◌/◌, ◌≤◌, ◌<◌, ℕ, List, arith, ap, sym, refl, take, drop, length, get_or, min, subst, subst₂, length-take}
+use Rattle.std.proofs.Common.{◌≡◌, ◌∙◌, ◌+◌, ◌-◌, ◌*◌, ◌≤◌, ◌<◌, ℕ, List, arith, ap, sym, take, drop, length, get_or, min, subst, subst₂, length-take}
 use Rattle.std.specs.List.{AllByRecursion}
 use Rattle.lift_core.specs.ToolSystems.{width}
-use Rattle.stage_store.specs.declared.sieve.Group.{Group}
 use Rattle.stage_store.specs.Sieve.{AreSiftedBy, IsSized, IsGroup, IsDead}
 use Rattle.stage_store.proofs.Tables.{each_cut, each_less}
 use Rattle.stage_store.proofs.Sifting.{group_has_none, group_more, part_at, stay_through}
@@ -40,8 +39,8 @@ sift_group-requires-clause-dead c =
     c.requires.wide (omega (arith, c.requires.row, c.requires.reach_count)) (each_less (length c.args.reaches.now) (length c.args.listed.now.rows) c.args.table.now.ids.items c.requires.reach_count c.requires.places)
     here group c.requires.asked dead (omega (arith, short, few))
     (λ k l.
-      part_at (c.min-to.result - 64 * c.loop-group.group) (64 * c.loop-group.group) k c.deref-in-loop-group-2.result.now (omega (arith, l, short))
-      ∙ ap (λ (xs : List ℕ). get_or xs (64 * c.loop-group.group + k) 0) c.deref-in-loop-group-2.ensures.value)
+    part_at (c.min-to.result - 64 * c.loop-group.group) (64 * c.loop-group.group) k c.deref-in-loop-group-2.result.now (omega (arith, l, short))
+    ∙ ap (λ (xs : List ℕ). get_or xs (64 * c.loop-group.group + k) 0) c.deref-in-loop-group-2.ensures.value)
 
 pub loop-group-preserved : goal.loop-group-preserved
 loop-group-preserved c =

@@ -1,4 +1,4 @@
-use Rattle.std.proofs.Common.{◌≡◌, ◌∙◌, ◌<◌, ℕ, List, length, ap, sym, subst, arith, refl}
+use Rattle.std.proofs.Common.{◌≡◌, ◌∙◌, length, ap, sym, subst, arith, refl}
 use Rattle.std.proofs.lemmas.List.{length-set}
 use Rattle.stage_store.specs.Lines.{MarksRow, with_bit}
 use Rattle.stage_store.proofs.LineBits.{mark_one}

@@ -1,4 +1,3 @@
-use Rattle.std.proofs.Common.{◌≡◌, length}
 use Rattle.stage_store.specs.Sieve.{IsSieveTo, IsRoom}
 use Rattle.stage_store.proofs.sieve.Sieve.sift_rows.Given as goal
 

@@ -1,4 +1,4 @@
-use Rattle.std.proofs.Common.{◌≡◌, ◌+◌, ◌*◌, ◌≤◌, ◌<◌, ℕ, List, [], ◌∷◌, length, length-append, ap, sym, subst, arith, refl, true, false}
+use Rattle.std.proofs.Common.{◌≡◌, ◌+◌, ◌*◌, ℕ, List, [], ◌∷◌, length, length-append, ap, sym, subst, arith, refl, true, false}
 use Rattle.std.specs.Prelude.{ℤ, OnOk}
 use Rattle.lift_core.specs.ToolSystems.{width}
 use Rattle.lift_core.specs.Stages.{has_positive_last, has_negative_last}

@@ -1,5 +1,4 @@
-use Rattle.std.proofs.Common.{◌≡◌, ◌+◌, ◌*◌, ◌/◌, ◌%◌, ◌<◌, ℕ, List, [], ◌∷◌, ◌++◌, set, length, get_or, ap, sym, subst, arith}
-use Rattle.stage_store.specs.declared.sieve.Group.{Group}
+use Rattle.std.proofs.Common.{◌≡◌, ◌+◌, ◌*◌, ◌/◌, ◌%◌, ◌<◌, ℕ, List, set, length, ap, sym, subst, arith}
 use Rattle.stage_store.specs.Sieve.{AreGroups, IsGroup, IsSized}
 use Rattle.stage_store.proofs.Tables.{groups_set, group_marked}
 use Rattle.stage_store.proofs.sieve.Table.push.Goals as goal

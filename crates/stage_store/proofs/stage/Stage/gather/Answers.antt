@@ -1,4 +1,4 @@
-use Rattle.std.proofs.Common.{◌≡◌, ◌+◌, ℕ, subst, refl, arith}
+use Rattle.std.proofs.Common.{◌+◌, ℕ, subst, refl, arith}
 use Rattle.lift_core.specs.Stages.{has_positive_last, has_negative_last}
 use Rattle.stage_store.specs.Classes.{AreClasses}
 use Rattle.stage_store.specs.Stage.{StageValue, IsStage}

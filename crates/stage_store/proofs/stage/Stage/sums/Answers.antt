@@ -1,4 +1,4 @@
-use Rattle.std.proofs.Common.{◌≡◌, refl, ◌∙◌, ap, sym, subst, arith, inl, ◌⊎◌, List}
+use Rattle.std.proofs.Common.{refl, ◌∙◌, subst, ◌⊎◌, List}
 use Rattle.std.specs.Prelude.{ℤ}
 use Rattle.std.specs.List.{Contains}
 use Rattle.lift_core.specs.Lists.{IsListOf}
