@@ -1,4 +1,5 @@
-//! Stages that are built anew from their rows, beside those that they are of, and the number of pairs up to a norm.
+//! Stages that are built anew from their rows, beside those that they are of, and the number of
+//! pairs up to a norm.
 
 ghost use Rattle.std.specs.Prelude.{◌≡◌, ◌+◌, ◌<◌, ◌≤◌, length, nat_abs, IfOk, IfSome, All};
 ghost use Rattle.lift_core.specs.ToolSystems.{width};
@@ -119,13 +120,16 @@ fn close_alike(alloc: Global, one: &mut Stage, other: &mut Stage) -> Result<bool
     let Some(second) = close_next(alloc, other)? else {
         return Ok(false);
     };
-    Ok(first.norm == second.norm
-        && same_rows(&first.rows, &second.rows)
-        && one.used() == other.used()
-        && one.len() == other.len())
+    Ok(
+        first.norm == second.norm
+            && same_rows(&first.rows, &second.rows)
+            && one.used() == other.used()
+            && one.len() == other.len(),
+    )
 }
 
-// After so many norms, how many norms more a rebuilt stage closes as the first one does, and its rows and used pairs then.
+// After so many norms, how many norms more a rebuilt stage closes as the first one does, and its
+// rows and used pairs then.
 fn goes_on(alloc: Global, norms: u32) -> Result<Option<(u32, u32, u64)>, AllocError> {
     let Some(mut stage) = after(alloc, [3, 5, -7], norms)? else {
         return Ok(None);
@@ -141,16 +145,21 @@ fn goes_on(alloc: Global, norms: u32) -> Result<Option<(u32, u32, u64)>, AllocEr
     Ok(None)
 }
 
-// That the stage closes 13 norms, lists 48 rows and uses 256 pairs was counted by a program in another language.
+// That the stage closes 13 norms, lists 48 rows and uses 256 pairs was counted by a program in
+// another language.
 #[test]
 fn rebuilt_stages_go_on_alike(rt: HostRuntime) -> Result<(), Fail> {
     for (norms, more) in [(0, 13), (3, 10), (12, 1), (13, 0)] {
-        assert_eq!(rt; goes_on(rt.alloc(), norms)?, Some((more, 48, 256)), "after {norms} norms");
+        assert_eq!(rt;
+            goes_on(rt.alloc(), norms)?,
+            Some((more, 48, 256)),
+            "after {norms} norms"
+        );
     }
     Ok(())
 }
 
-// Of the rows with a last entry below 0, the number of those whose norm and n are together at most `most`.
+// How many rows with a last entry below 0 have with n a norm of at most `most`.
 fn seconds(rows: &Pool, n: u64, most: u64) -> u64
     requires { rows.now.width ≡ 4 }
 {
@@ -221,8 +230,16 @@ fn pairs_within_counts_each_pair(rt: HostRuntime) -> Result<(), Fail> {
     let mut number = 3;
     for norms in 1..12_u32 {
         number = next(number);
-        let row = [entry(number >> 52), entry(number >> 40), entry(number >> 28)];
-        assert_eq!(rt; first_difference(rt.alloc(), row, norms)?, None, "of {row:?}");
+        let row = [
+            entry(number >> 52),
+            entry(number >> 40),
+            entry(number >> 28),
+        ];
+        assert_eq!(rt;
+            first_difference(rt.alloc(), row, norms)?,
+            None,
+            "of {row:?}"
+        );
     }
     Ok(())
 }

@@ -7,7 +7,6 @@ pub use Rattle.row_pool.specs.Rows
 pub use Rattle.reduce_tree.specs.Tree
 pub mod Indexed
 pub mod Classes
-pub mod Clashes
 pub mod Signs
 pub mod Least
 pub mod Stage
@@ -23,3 +22,9 @@ pub mod Sorting
 pub mod CountedPairs
 pub mod Rebuilt
 pub mod Sound
+pub mod Reaches
+pub mod Lines
+pub mod Levels
+pub mod Sieve
+pub mod Opened
+pub mod Fields

@@ -9,7 +9,8 @@ use Rattle.stage_store.specs.declared.stage.Lifted.TheVariants.{Next, Last}
 
 -- each row is a solution of all equations, and not zero
 pub record HasSolutions (f : Finish) : Type 0 where
-  pub solve : AllByRecursion (Solves f.system.equations (length f.system.equations.rows)) f.rows.rows
+  pub solve :
+      AllByRecursion (Solves f.system.equations (length f.system.equations.rows)) f.rows.rows
   pub nonzero : AllByRecursion (λ v. 0 < norm v) f.rows.rows
 
 -- a finish has solutions; of a stage nothing is said

@@ -1,4 +1,4 @@
-//! The number of pairs up to a norm, of rows in ascending order. It takes no memory, and looks at each row twice.
+//! The number of pairs up to a norm, of rows in ascending order. It takes no memory.
 
 ghost use Rattle.std.specs.Prelude.{◌≡◌, ◌<◌, ◌≤◌, ◌^◌, ℕ, [], length, slice_index_or};
 ghost use Rattle.std.specs.List.{AllByRecursion};
@@ -10,7 +10,8 @@ use crate::growing::has_sign;
 use int_vector::norm;
 use row_pool::{Pool, RowId};
 
-/// How far a first row reaches: the rows before place `end`, of which `seconds` have a last entry below 0.
+/// How far a first row reaches: the rows before place `end`, `seconds` of them with a last entry
+/// below 0.
 #[derive(Clone, Copy)]
 struct Reach {
     end: u32,

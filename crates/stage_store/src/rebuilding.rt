@@ -1,4 +1,5 @@
-//! What a stage keeps beside its listed rows, made anew from them: the tree that holds them, and their classes.
+//! What a stage keeps beside its listed rows, made anew from them: the tree that holds them, and
+//! their classes.
 
 ghost use Rattle.std.specs.Prelude.{◌≡◌, ◌<◌, ◌≤◌, ◌^◌, ℕ, length, take, drop, IfOk};
 ghost use Rattle.std.specs.List.{AllByRecursion};
@@ -6,6 +7,7 @@ ghost use Rattle.std.specs.List.Sorted.{IsStrictlySortedBy};
 ghost use Rattle.lift_core.specs.Stages.{stage_norm, norm_cmp};
 ghost use Rattle.stage_store.specs.Indexed.{HoldsRows};
 ghost use Rattle.stage_store.specs.Classes.{AreClasses, places, sign_test};
+ghost use Rattle.stage_store.specs.Opened.{AscendWithin};
 
 use crate::class::Class;
 use crate::counting::norm_at;
@@ -26,14 +28,15 @@ pub fn tree_of(alloc: Global, listed: &Pool) -> Result<Tree, AllocError>
     Ok(tree)
 }
 
-/// The classes of the rows whose last entry is above 0, or of those with one below 0: one for each norm that has any.
+/// The classes of the rows with a last entry above 0, or below it: one for each norm that has any.
 pub fn classes_of(alloc: Global, listed: &Pool, positive: bool) -> Result<Vec<Class>, AllocError>
     requires width { 0 < listed.now.width }
     requires ascending { IsStrictlySortedBy norm_cmp listed.now.rows }
     requires above { AllByRecursion (λ z. 0 < stage_norm z) listed.now.rows }
     requires small { AllByRecursion (λ z. stage_norm z ≤ 9223372036854775807) listed.now.rows }
     requires few { length listed.now.rows ≤ 2 ^ 21 }
-    ensures { IfOk result (λ classes. AreClasses listed.now.rows (sign_test positive) classes.items) }
+    ensures classes { IfOk result (λ classes. AreClasses listed.now.rows (sign_test positive) classes.items) }
+    ensures ids { IfOk result (λ classes. AscendWithin classes.items) }
 {
     let mut classes = Vec::new(alloc);
     let mut from = 0;
@@ -48,7 +51,7 @@ pub fn classes_of(alloc: Global, listed: &Pool, positive: bool) -> Result<Vec<Cl
     Ok(classes)
 }
 
-/// The class of the rows with a sign among those from one place up to another, which have this norm.
+/// The class of the rows with a sign, among the rows of a norm from one place up to another.
 fn class_within(
     alloc: Global,
     listed: &Pool,
