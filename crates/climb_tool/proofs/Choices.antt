@@ -1,9 +1,10 @@
 -- The first candidate that helps: of a vector and its negative, and of the rows one after another.
-use Rattle.std.proofs.Common.{◌≡◌, ℕ, zero, suc, ◌+◌, ◌<◌, ◌≤◌, List, [], ◌∷◌, ◌++◌, length, get_or, take, drop, refl, ap, ap₂, sym, ◌∙◌, subst, arith, append_assoc, Bool, true, false, inl, inr, ◌⊎◌, None, Some}
+use Rattle.std.proofs.Common.{◌≡◌, ℕ, zero, suc, ◌+◌, ◌<◌, ◌≤◌, List, [], ◌∷◌, ◌++◌, length, get_or, take, drop, refl, ap, sym, ◌∙◌, subst}
+use Rattle.std.proofs.Common.{arith, append_assoc, Bool, true, false, None, Some}
 use Rattle.std.specs.Prelude.{ℤ, pos, neg_ℤ, int_lt, MatchOption, IfSome, Option, ◌≤ℤ◌, ◌<ℤ◌}
 use Rattle.std.specs.List.{AllByRecursion}
 use Rattle.std.proofs.lemmas.Int.{ints}
-use Rattle.std.proofs.lemmas.List.{drop_more, take_more, take_all, take-append-drop}
+use Rattle.std.proofs.lemmas.List.{drop_more, take_more, take-append-drop}
 use Rattle.int_vector.specs.Vectors.{dot, negated, norm}
 use Rattle.int_vector.specs.Operations.{add}
 use Rattle.system_files.specs.Kernel.{IsKernelRow}
@@ -71,7 +72,8 @@ negative_nonzero a h e = grind (arith, ints)
 negative_at_most : (a : ℤ) → a <ℤ pos 0 → a ≤ℤ pos 0
 negative_at_most a h = grind (arith, ints)
 
-first_of_tried : (upper cost x : List ℤ) (vectors : List (List ℤ)) (W : Type 0) (candidate : Candidate) (r : Option Candidate) → MatchOption r (W → ⊥) (λ c. (c ≡ candidate) × W) →
+first_of_tried : (upper cost x : List ℤ) (vectors : List (List ℤ)) (W : Type 0) (candidate : Candidate) (r : Option Candidate) →
+    MatchOption r (W → ⊥) (λ c. (c ≡ candidate) × W) →
     (W → FirstHelp upper cost x vectors (Some (vector_of candidate))) → ((W → ⊥) → FirstHelp upper cost x vectors None) → FirstHelp upper cost x vectors (option_map vector_of r)
 first_of_tried upper cost x vectors W candidate None h taken left = left h
 first_of_tried upper cost x vectors W candidate (Some c) h taken left =
@@ -96,10 +98,12 @@ tried_negative upper cost x v change r e f h =
     (negative_helps upper cost x v.now l)
     (none_above upper cost x v.now l)
 
-pub tried_none : (upper cost x v : List ℤ) (change : ℤ) → change ≡ dot cost v → int_lt change (pos 0) ≡ false → int_lt (pos 0) change ≡ false → FirstHelp upper cost x (v ∷ negated v ∷ []) None
+pub tried_none : (upper cost x v : List ℤ) (change : ℤ) → change ≡ dot cost v → int_lt change (pos 0) ≡ false →
+    int_lt (pos 0) change ≡ false → FirstHelp upper cost x (v ∷ negated v ∷ []) None
 tried_none upper cost x v change e f g = none_at_zero upper cost x v (sym e ∙ neither change f g)
 
-pub same_vector : (v : Bor (List ℤ)) (b : Bool) (W : Type 0) (r : Option Candidate) → MatchOption r (W → ⊥) (λ c. (c ≡ record { vector = v; negative = b }) × W) → IfSome r (λ c. c.vector.now ≡ v.now)
+pub same_vector : (v : Bor (List ℤ)) (b : Bool) (W : Type 0) (r : Option Candidate) →
+    MatchOption r (W → ⊥) (λ c. (c ≡ record { vector = v; negative = b }) × W) → IfSome r (λ c. c.vector.now ≡ v.now)
 same_vector v b W None h = tt
 same_vector v b W (Some c) h = ap (λ k. k.vector.now) h.0
 
@@ -135,7 +139,8 @@ module _ (upper cost x : List ℤ) (rows : List (List ℤ)) (i : ℕ) (v : List 
       }
 
 -- the norm of a row in the kernel
-pub row_norm : (rows set : List (List ℤ)) (i : ℕ) (v : List ℤ) → i < length set → v ≡ get_or set i [] → AllByRecursion (IsKernelRow rows) set → norm v ≤ 9223372036854775807
+pub row_norm : (rows set : List (List ℤ)) (i : ℕ) (v : List ℤ) → i < length set → v ≡ get_or set i [] →
+    AllByRecursion (IsKernelRow rows) set → norm v ≤ 9223372036854775807
 row_norm rows [] i v l e h = absurd (omega arith)
 row_norm rows (g ∷ set) zero v l e h = subst (λ (w : List ℤ). norm w ≤ 9223372036854775807) (sym e) h.0.small
 row_norm rows (g ∷ set) (suc i) v l e h = row_norm rows set i v (omega arith) e h.1

@@ -176,7 +176,8 @@ times_once (x ∷ g) = ap₂ (λ a v. a ∷ v) (once x) (times_once g) where
   once : (x : ℤ) → pos 1 *ℤ x ≡ x
   once x = grind (arith, ints)
 
-pub cost_falls : (upper cost x : List ℤ) (set : List (List ℤ)) (s : Step) → length s.by ≡ length x → IsStep upper cost set x s → dot cost (after_step x s) <ℤ dot cost x
+pub cost_falls : (upper cost x : List ℤ) (set : List (List ℤ)) (s : Step) → length s.by ≡ length x → IsStep upper cost set x s →
+    dot cost (after_step x s) <ℤ dot cost x
 cost_falls upper cost x set s long step =
     let one : 1 ≤ s.count = step.greatest.most 1 (subst (λ (g : List ℤ). IsWithinBounds upper (add x g)) (sym (times_once s.by)) step.first.helps.within) in
     let sum : dot cost (after_step x s) ≡ dot cost x +ℤ (pos s.count *ℤ dot cost s.by) =

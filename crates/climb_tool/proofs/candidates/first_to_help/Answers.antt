@@ -1,5 +1,5 @@
 -- The rows so far, and the one that is tried.
-use Rattle.std.proofs.Common.{◌≡◌, ◌<◌, ◌≤◌, ◌∙◌, ap, sym, subst, length, arith}
+use Rattle.std.proofs.Common.{◌<◌, ◌≤◌, subst, length, arith}
 use Rattle.std.specs.Prelude.{List, ℤ}
 use Rattle.std.proofs.lemmas.List.{take_all}
 use Rattle.system_files.specs.Kernel.{rows_in}

@@ -2,7 +2,7 @@
 use Rattle.std.proofs.Common.{◌≡◌, rules, SFits, to_z-of_z, true, false}
 use Rattle.std.specs.Prelude.{pos, int_lt}
 use mir.Syntax.{w128}
-use Rattle.climb_tool.proofs.Choices.{tried_itself, tried_negative, tried_none, same_vector}
+use Rattle.climb_tool.proofs.Choices.{tried_itself, tried_negative, tried_none}
 use Rattle.climb_tool.proofs.candidates.helping.Goals as goal
 
 pub returns-then-change-lt0-clause-first : goal.returns-then-change-lt0-clause-first

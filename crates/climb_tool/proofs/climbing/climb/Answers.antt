@@ -1,4 +1,4 @@
-use Rattle.std.proofs.Common.{◌≡◌, ◌∙◌, arith}
+use Rattle.std.proofs.Common.{arith}
 use Rattle.climb_tool.specs.Inside.Turns.{vector_of}
 use Rattle.climb_tool.proofs.climbing.climb.Goals as goal
 

@@ -1,5 +1,5 @@
 -- Each entry is moved from where it was.
-use Rattle.std.proofs.Common.{◌≡◌, ◌<◌, ◌≤◌, ◌∙◌, ℕ, arith, rules, sym, ap, subst, length, get_or, pos, SFits, w64, to_z-of_z}
+use Rattle.std.proofs.Common.{◌≡◌, ◌<◌, ◌∙◌, ℕ, arith, rules, sym, ap, subst, length, get_or, pos, SFits, w64, to_z-of_z}
 use Rattle.std.specs.Prelude.{ℤ, ◌+ℤ◌, ◌*ℤ◌, ◌≤ℤ◌, List}
 use Rattle.std.proofs.lemmas.Int.{ints}
 use Rattle.std.proofs.lemmas.List.{length-set}

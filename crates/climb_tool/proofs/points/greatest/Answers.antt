@@ -1,5 +1,5 @@
 -- So many times at most, and what is left, decide.
-use Rattle.std.proofs.Common.{◌≡◌, ◌<◌, ◌≤◌, ◌∙◌, ℕ, arith, rules, sym, length, get_or, pos, min, SFits, w64, to_z-of_z}
+use Rattle.std.proofs.Common.{◌≡◌, ◌<◌, ◌≤◌, ◌∙◌, ℕ, arith, rules, sym, length, get_or, pos, SFits, w64, to_z-of_z}
 use Rattle.std.specs.Prelude.{ℤ, ◌↔◌, ◌*ℤ◌, List}
 use Rattle.climb_tool.specs.Inside.Turns.{turned_entry, vector_of}
 use Rattle.climb_tool.proofs.Entries.{Fits, length-turned, entry_turned, entry_within, greatest_step, greatest_end}

@@ -1,4 +1,4 @@
-use Rattle.std.proofs.Common.{◌≡◌, ◌≤◌, ◌∙◌, sym, length, arith}
+use Rattle.std.proofs.Common.{◌≤◌, length, arith}
 use Rattle.climb_tool.proofs.Leading.{is_climb, point_long}
 use Rattle.climb_tool.proofs.Concluding.{published_ends, stopped_ends}
 use Rattle.climb_tool.proofs.top.write_path.Goals as goal
