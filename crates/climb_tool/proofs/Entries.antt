@@ -64,17 +64,23 @@ within_length (u ∷ upper) (a ∷ x) h = ap suc (within_length upper x h.1)
 abbrev pub Fits : ℤ → ℤ → ℤ → Type 0
 Fits u a g = (pos 0 ≤ℤ (a +ℤ g)) × ((a +ℤ g) ≤ℤ u)
 
--- what is within the bounds behind place i is the entry there, and what is behind
+-- what is within the bounds from place i on is the entry there, and what is behind
+abbrev Behind : List ℤ → List ℤ → List ℤ → ℕ → Type 0
+Behind upper x g i = IsWithinBounds (drop i upper) (add (drop i x) (drop i g))
+
+abbrev Here : List ℤ → List ℤ → List ℤ → ℕ → ℤ → Type 0
+Here upper x g i d = Fits (get_or upper i d) (get_or x i d) (get_or g i d)
+
+first_and_others : (u a b : ℤ) (upper x g first second third : List ℤ) → first ≡ u ∷ upper → second ≡ a ∷ x → third ≡ b ∷ g →
+    IsWithinBounds first (add second third) ↔ (Fits u a b × IsWithinBounds upper (add x g))
+first_and_others u a b upper x g first second third e f h = rw (e, f, h) (λ w. w, λ w. w)
+
 pub within_more : (upper x g : List ℤ) (i : ℕ) (d : ℤ) → i < length upper → length x ≡ length upper → length g ≡ length upper →
-    IsWithinBounds (drop i upper) (add (drop i x) (drop i g)) ↔ (Fits (get_or upper i d) (get_or x i d) (get_or g i d) × IsWithinBounds (drop (i + 1) upper) (add (drop (i + 1) x) (drop (i + 1) g)))
+    Behind upper x g i ↔ (Here upper x g i d × Behind upper x g (i + 1))
 within_more upper x g i d l m n =
-    subst (λ (v : List ℤ). IsWithinBounds v (add (drop i x) (drop i g)) ↔ (Fits (get_or upper i d) (get_or x i d) (get_or g i d) × IsWithinBounds (drop (i + 1) upper) (add (drop (i + 1) x) (drop (i + 1) g))))
-    (sym (drop_more upper i d l))
-    (subst (λ (v : List ℤ). IsWithinBounds (get_or upper i d ∷ drop (i + 1) upper) (add v (drop i g)) ↔ (Fits (get_or upper i d) (get_or x i d) (get_or g i d) × IsWithinBounds (drop (i + 1) upper) (add (drop (i + 1) x) (drop (i + 1) g))))
-    (sym (drop_more x i d (omega (arith, l, m))))
-    (subst (λ (v : List ℤ). IsWithinBounds (get_or upper i d ∷ drop (i + 1) upper) (add (get_or x i d ∷ drop (i + 1) x) v) ↔ (Fits (get_or upper i d) (get_or x i d) (get_or g i d) × IsWithinBounds (drop (i + 1) upper) (add (drop (i + 1) x) (drop (i + 1) g))))
-    (sym (drop_more g i d (omega (arith, l, n))))
-    (λ h. h, λ h. h)))
+    first_and_others (get_or upper i d) (get_or x i d) (get_or g i d)
+    (drop (i + 1) upper) (drop (i + 1) x) (drop (i + 1) g) (drop i upper) (drop i x) (drop i g)
+    (drop_more upper i d l) (drop_more x i d (omega (arith, l, m))) (drop_more g i d (omega (arith, l, n)))
 
 pub within_end : (upper x g : List ℤ) (i : ℕ) → length upper ≤ i → length x ≡ length upper → length g ≡ length upper →
     IsWithinBounds (drop i upper) (add (drop i x) (drop i g))
