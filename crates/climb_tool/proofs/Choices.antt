@@ -40,7 +40,8 @@ module _ (upper cost x v : List ℤ) where
   negative_cost h = subst (λ (p : ℤ). p <ℤ pos 0) (dot-negated cost v) h
 
   pub itself_helps : (dot cost v ≡ pos 0 → ⊥) → dot cost v ≤ℤ pos 0 → IsWithinBounds upper (add x v) → FirstHelp upper cost x (v ∷ negated v ∷ []) (Some v)
-  itself_helps n h w = record { before = []; after = negated v ∷ []; place = refl; none_before = tt; helps = record { within = w; cheaper = below (dot cost v) n h } }
+  itself_helps n h w =
+      record { before = []; after = negated v ∷ []; place = refl; none_before = tt; helps = record { within = w; cheaper = below (dot cost v) n h } }
 
   pub negative_helps : pos 0 <ℤ dot cost v → IsWithinBounds upper (add x (negated v)) → FirstHelp upper cost x (v ∷ negated v ∷ []) (Some (negated v))
   negative_helps h w = record {
@@ -116,7 +117,8 @@ each-append : (P : List ℤ → Type 0) (xs ys : List (List ℤ)) → AllByRecur
 each-append P [] ys h k = k
 each-append P (x ∷ xs) ys h k = (h.0, each-append P xs ys h.1 k)
 
-module _ (upper cost x : List ℤ) (rows : List (List ℤ)) (i : ℕ) (v : List ℤ) (inside : i < length rows) (is : v ≡ get_or rows i []) (none : NoneHelps upper cost x (candidates (take i rows))) where
+module _ (upper cost x : List ℤ) (rows : List (List ℤ)) (i : ℕ) (v : List ℤ) (inside : i < length rows) (is : v ≡ get_or rows i [])
+    (none : NoneHelps upper cost x (candidates (take i rows))) where
   pub none_more : FirstHelp upper cost x (v ∷ negated v ∷ []) None → NoneHelps upper cost x (candidates (take (i + 1) rows))
   none_more h =
       let split : candidates (take (i + 1) rows) ≡ candidates (take i rows) ++ (v ∷ negated v ∷ []) =
@@ -130,7 +132,8 @@ module _ (upper cost x : List ℤ) (rows : List (List ℤ)) (i : ℕ) (v : List 
       let split : candidates rows ≡ front ++ (v ∷ negated v ∷ back) =
       ap candidates (sym (take-append-drop i rows) ∙ ap (λ t. take i rows ++ t) (drop_more rows i [] inside ∙ ap (λ w. w ∷ drop (i + 1) rows) (sym is)))
       ∙ candidates-append (take i rows) (v ∷ drop (i + 1) rows) in
-      let middle : v ∷ negated v ∷ back ≡ f.before ++ (h ∷ (f.after ++ back)) = ap (λ l. l ++ back) f.place ∙ append_assoc f.before (h ∷ f.after) back in record {
+      let middle : v ∷ negated v ∷ back ≡ f.before ++ (h ∷ (f.after ++ back)) =
+      ap (λ l. l ++ back) f.place ∙ append_assoc f.before (h ∷ f.after) back in record {
         before = front ++ f.before;
         after = f.after ++ back;
         place = split ∙ ap (λ l. front ++ l) middle ∙ sym (append_assoc front f.before (h ∷ (f.after ++ back)));

@@ -24,7 +24,8 @@ use Rattle.climb_tool.specs.Inside.Walks.{Climbed}
 use Rattle.climb_tool.specs.Ends.{summary_of, output_of, AreInKernel, grid_files, both_written, reached_at, IsClimb, IsCutShort, Cut}
 use Rattle.climb_tool.specs.Ends.{Published, EndsWith, Ends}
 
-module _ (project : List ℕ) (p : Problem) (budget : ℕ) (taken : List Step) (point : List ℤ) (opt steps : Matrix) (reached : Reached) (climb : IsClimb p budget taken point)
+module _ (project : List ℕ) (p : Problem) (budget : ℕ) (taken : List Step) (point : List ℤ) (opt steps : Matrix) (reached : Reached)
+    (climb : IsClimb p budget taken point)
     (wide : length point ≡ p.mat.cols) (long : AllByRecursion (λ row. length row ≡ p.mat.cols + 1) (step_rows taken))
     (opt_is : opt ≡ grid_of p.mat.cols (point ∷ [])) (steps_is : steps ≡ grid_of (p.mat.cols + 1) (step_rows taken)) (reached_is : reached ≡ reached_at p taken point) where
   opt_text : text_of opt ≡ text_of_rows p.mat.cols (point ∷ [])

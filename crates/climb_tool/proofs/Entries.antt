@@ -112,7 +112,8 @@ entry_of_sum (u ∷ upper) (a ∷ x) (b ∷ g) (suc i) d l e f h = entry_of_sum 
 
 -- ---- how often an entry can be moved
 up_room : (u a : ℤ) (s d : ℕ) → pos 0 ≤ℤ a → a ≤ℤ u → 0 < s → Fits u a (pos d *ℤ pos s) ↔ (d ≤ nat_abs (u -ℤ a) / s)
-up_room u a s d low high h = (λ f. (le-div_iff_mul-le {k = s} {x = d} {y = nat_abs (u -ℤ a)} h).1 (below f), λ f. above ((le-div_iff_mul-le {k = s} {x = d} {y = nat_abs (u -ℤ a)} h).0 f)) where
+up_room u a s d low high h =
+    (λ f. (le-div_iff_mul-le {k = s} {x = d} {y = nat_abs (u -ℤ a)} h).1 (below f), λ f. above ((le-div_iff_mul-le {k = s} {x = d} {y = nat_abs (u -ℤ a)} h).0 f)) where
   below : Fits u a (pos d *ℤ pos s) → d * s ≤ nat_abs (u -ℤ a)
   below f = grind (arith, ints, f, low, high)
 
@@ -120,7 +121,8 @@ up_room u a s d low high h = (λ f. (le-div_iff_mul-le {k = s} {x = d} {y = nat_
   above f = grind (arith, ints, f, low, high)
 
 down_room : (u a : ℤ) (s d : ℕ) → pos 0 ≤ℤ a → a ≤ℤ u → Fits u a (pos d *ℤ negsuc s) ↔ (d ≤ nat_abs a / suc s)
-down_room u a s d low high = (λ f. (le-div_iff_mul-le {k = suc s} {x = d} {y = nat_abs a} (omega arith)).1 (below f), λ f. above ((le-div_iff_mul-le {k = suc s} {x = d} {y = nat_abs a} (omega arith)).0 f)) where
+down_room u a s d low high =
+    (λ f. (le-div_iff_mul-le {k = suc s} {x = d} {y = nat_abs a} (omega arith)).1 (below f), λ f. above ((le-div_iff_mul-le {k = suc s} {x = d} {y = nat_abs a} (omega arith)).0 f)) where
   below : Fits u a (pos d *ℤ negsuc s) → d * suc s ≤ nat_abs a
   below f = grind (arith, ints, f, low, high)
 
@@ -266,7 +268,8 @@ pub moved_taken : (upper start t x : List ℤ) (i : ℕ) (y : ℤ) → length x 
     length t ≡ length upper → i < length upper →
     take i x ≡ take i (add start t) → y ≡ get_or start i (pos 0) +ℤ get_or t i (pos 0) → take (i + 1) (set x i y) ≡ take (i + 1) (add start t)
 moved_taken upper start t x i y m point long l done is =
-    sum_step start t x i y (m ∙ within_length upper start point) (long ∙ within_length upper start point) (omega (arith, within_length upper start point, l)) done is
+    sum_step start t x i y (m ∙ within_length upper start point) (long ∙ within_length upper start point)
+    (omega (arith, within_length upper start point, l)) done is
 
 pub moved_others : (start x : List ℤ) (i : ℕ) (y : ℤ) → drop i x ≡ drop i start → drop (i + 1) (set x i y) ≡ drop (i + 1) start
 moved_others start x i y others = drop-set-lt (i + 1) x i y (omega arith) ∙ drop_more_same x start i others

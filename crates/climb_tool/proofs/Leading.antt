@@ -45,7 +45,8 @@ flat_more (q ∷ rows) r = ap (λ t. q ++ t) (flat_more rows r) ∙ sym (append_
 pub cells_more : (steps : List Step) (s : Step) (cells more : List ℤ) → cells ≡ flat_map (λ row. row) (step_rows steps) →
     more ≡ cells ++ (pos s.count ∷ s.by) →
     more ≡ flat_map (λ row. row) (step_rows (steps ++ (s ∷ [])))
-cells_more steps s cells more e f = f ∙ ap (λ c. c ++ (pos s.count ∷ s.by)) e ∙ sym (ap (flat_map (λ row. row)) (rows_more steps s) ∙ flat_more (step_rows steps) (pos s.count ∷ s.by))
+cells_more steps s cells more e f =
+    f ∙ ap (λ c. c ++ (pos s.count ∷ s.by)) e ∙ sym (ap (flat_map (λ row. row)) (rows_more steps s) ∙ flat_more (step_rows steps) (pos s.count ∷ s.by))
 
 pub one_cell : (v : List ℤ) → v ≡ flat_map (λ row. row) (v ∷ [])
 one_cell v = sym (append_nothing v)
@@ -61,7 +62,8 @@ each_more n (q ∷ rows) r h e = (h.0, each_more n rows r h.1 e)
 
 pub lengths_more : (n : ℕ) (steps : List Step) (s : Step) → AllByRecursion (λ row. length row ≡ n + 1) (step_rows steps) → length s.by ≡ n →
     AllByRecursion (λ row. length row ≡ n + 1) (step_rows (steps ++ (s ∷ [])))
-lengths_more n steps s h e = subst (AllByRecursion (λ row. length row ≡ n + 1)) (sym (rows_more steps s)) (each_more (n + 1) (step_rows steps) (pos s.count ∷ s.by) h (omega (arith, e)))
+lengths_more n steps s h e =
+    subst (AllByRecursion (λ row. length row ≡ n + 1)) (sym (rows_more steps s)) (each_more (n + 1) (step_rows steps) (pos s.count ∷ s.by) h (omega (arith, e)))
 
 pub small-append : (P : ℤ → Type 0) (xs ys : List ℤ) → AllByRecursion P xs → AllByRecursion P ys → AllByRecursion P (xs ++ ys)
 small-append P [] ys h k = k
@@ -154,7 +156,8 @@ is_climb p budget steps point h kernel path within stuck few =
         within = within;
         same = same;
         least = λ z w e.
-            stuck_is_optimal p.mat (rows_in p.set) p.upper.cells p.cost.cells point basis h.shapes.upper within stuck z w (same_back (rows_in p.mat) p.start.cells point z same e);
+            stuck_is_optimal p.mat (rows_in p.set) p.upper.cells p.cost.cells point basis h.shapes.upper within stuck z w
+            (same_back (rows_in p.mat) p.start.cells point z same e);
       };
     }
 
