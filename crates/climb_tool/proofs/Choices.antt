@@ -1,9 +1,10 @@
 -- The first candidate that helps: of a vector and its negative, and of the rows one after another.
-use Rattle.std.proofs.Common.{◌≡◌, ℕ, zero, suc, ◌+◌, ◌<◌, ◌≤◌, List, [], ◌∷◌, ◌++◌, length, get_or, take, drop, refl, ap, ap₂, sym, ◌∙◌, subst, arith, append_assoc, Bool, true, false, inl, inr, ◌⊎◌, None, Some}
+use Rattle.std.proofs.Common.{◌≡◌, ℕ, zero, suc, ◌+◌, ◌<◌, ◌≤◌, List, [], ◌∷◌, ◌++◌, length, get_or, take, drop, refl, ap, sym, ◌∙◌, subst}
+use Rattle.std.proofs.Common.{arith, append_assoc, Bool, true, false, None, Some}
 use Rattle.std.specs.Prelude.{ℤ, pos, neg_ℤ, int_lt, MatchOption, IfSome, Option, ◌≤ℤ◌, ◌<ℤ◌}
 use Rattle.std.specs.List.{AllByRecursion}
 use Rattle.std.proofs.lemmas.Int.{ints}
-use Rattle.std.proofs.lemmas.List.{drop_more, take_more, take_all, take-append-drop}
+use Rattle.std.proofs.lemmas.List.{drop_more, take_more, take-append-drop}
 use Rattle.int_vector.specs.Vectors.{dot, negated, norm}
 use Rattle.int_vector.specs.Operations.{add}
 use Rattle.system_files.specs.Kernel.{IsKernelRow}
@@ -39,7 +40,8 @@ module _ (upper cost x v : List ℤ) where
   negative_cost h = subst (λ (p : ℤ). p <ℤ pos 0) (dot-negated cost v) h
 
   pub itself_helps : (dot cost v ≡ pos 0 → ⊥) → dot cost v ≤ℤ pos 0 → IsWithinBounds upper (add x v) → FirstHelp upper cost x (v ∷ negated v ∷ []) (Some v)
-  itself_helps n h w = record { before = []; after = negated v ∷ []; place = refl; none_before = tt; helps = record { within = w; cheaper = below (dot cost v) n h } }
+  itself_helps n h w =
+      record { before = []; after = negated v ∷ []; place = refl; none_before = tt; helps = record { within = w; cheaper = below (dot cost v) n h } }
 
   pub negative_helps : pos 0 <ℤ dot cost v → IsWithinBounds upper (add x (negated v)) → FirstHelp upper cost x (v ∷ negated v ∷ []) (Some (negated v))
   negative_helps h w = record {
@@ -71,7 +73,8 @@ negative_nonzero a h e = grind (arith, ints)
 negative_at_most : (a : ℤ) → a <ℤ pos 0 → a ≤ℤ pos 0
 negative_at_most a h = grind (arith, ints)
 
-first_of_tried : (upper cost x : List ℤ) (vectors : List (List ℤ)) (W : Type 0) (candidate : Candidate) (r : Option Candidate) → MatchOption r (W → ⊥) (λ c. (c ≡ candidate) × W) →
+first_of_tried : (upper cost x : List ℤ) (vectors : List (List ℤ)) (W : Type 0) (candidate : Candidate) (r : Option Candidate) →
+    MatchOption r (W → ⊥) (λ c. (c ≡ candidate) × W) →
     (W → FirstHelp upper cost x vectors (Some (vector_of candidate))) → ((W → ⊥) → FirstHelp upper cost x vectors None) → FirstHelp upper cost x vectors (option_map vector_of r)
 first_of_tried upper cost x vectors W candidate None h taken left = left h
 first_of_tried upper cost x vectors W candidate (Some c) h taken left =
@@ -96,10 +99,12 @@ tried_negative upper cost x v change r e f h =
     (negative_helps upper cost x v.now l)
     (none_above upper cost x v.now l)
 
-pub tried_none : (upper cost x v : List ℤ) (change : ℤ) → change ≡ dot cost v → int_lt change (pos 0) ≡ false → int_lt (pos 0) change ≡ false → FirstHelp upper cost x (v ∷ negated v ∷ []) None
+pub tried_none : (upper cost x v : List ℤ) (change : ℤ) → change ≡ dot cost v → int_lt change (pos 0) ≡ false →
+    int_lt (pos 0) change ≡ false → FirstHelp upper cost x (v ∷ negated v ∷ []) None
 tried_none upper cost x v change e f g = none_at_zero upper cost x v (sym e ∙ neither change f g)
 
-pub same_vector : (v : Bor (List ℤ)) (b : Bool) (W : Type 0) (r : Option Candidate) → MatchOption r (W → ⊥) (λ c. (c ≡ record { vector = v; negative = b }) × W) → IfSome r (λ c. c.vector.now ≡ v.now)
+pub same_vector : (v : Bor (List ℤ)) (b : Bool) (W : Type 0) (r : Option Candidate) →
+    MatchOption r (W → ⊥) (λ c. (c ≡ record { vector = v; negative = b }) × W) → IfSome r (λ c. c.vector.now ≡ v.now)
 same_vector v b W None h = tt
 same_vector v b W (Some c) h = ap (λ k. k.vector.now) h.0
 
@@ -112,7 +117,8 @@ each-append : (P : List ℤ → Type 0) (xs ys : List (List ℤ)) → AllByRecur
 each-append P [] ys h k = k
 each-append P (x ∷ xs) ys h k = (h.0, each-append P xs ys h.1 k)
 
-module _ (upper cost x : List ℤ) (rows : List (List ℤ)) (i : ℕ) (v : List ℤ) (inside : i < length rows) (is : v ≡ get_or rows i []) (none : NoneHelps upper cost x (candidates (take i rows))) where
+module _ (upper cost x : List ℤ) (rows : List (List ℤ)) (i : ℕ) (v : List ℤ) (inside : i < length rows) (is : v ≡ get_or rows i [])
+    (none : NoneHelps upper cost x (candidates (take i rows))) where
   pub none_more : FirstHelp upper cost x (v ∷ negated v ∷ []) None → NoneHelps upper cost x (candidates (take (i + 1) rows))
   none_more h =
       let split : candidates (take (i + 1) rows) ≡ candidates (take i rows) ++ (v ∷ negated v ∷ []) =
@@ -126,7 +132,8 @@ module _ (upper cost x : List ℤ) (rows : List (List ℤ)) (i : ℕ) (v : List 
       let split : candidates rows ≡ front ++ (v ∷ negated v ∷ back) =
       ap candidates (sym (take-append-drop i rows) ∙ ap (λ t. take i rows ++ t) (drop_more rows i [] inside ∙ ap (λ w. w ∷ drop (i + 1) rows) (sym is)))
       ∙ candidates-append (take i rows) (v ∷ drop (i + 1) rows) in
-      let middle : v ∷ negated v ∷ back ≡ f.before ++ (h ∷ (f.after ++ back)) = ap (λ l. l ++ back) f.place ∙ append_assoc f.before (h ∷ f.after) back in record {
+      let middle : v ∷ negated v ∷ back ≡ f.before ++ (h ∷ (f.after ++ back)) =
+      ap (λ l. l ++ back) f.place ∙ append_assoc f.before (h ∷ f.after) back in record {
         before = front ++ f.before;
         after = f.after ++ back;
         place = split ∙ ap (λ l. front ++ l) middle ∙ sym (append_assoc front f.before (h ∷ (f.after ++ back)));
@@ -135,7 +142,8 @@ module _ (upper cost x : List ℤ) (rows : List (List ℤ)) (i : ℕ) (v : List 
       }
 
 -- the norm of a row in the kernel
-pub row_norm : (rows set : List (List ℤ)) (i : ℕ) (v : List ℤ) → i < length set → v ≡ get_or set i [] → AllByRecursion (IsKernelRow rows) set → norm v ≤ 9223372036854775807
+pub row_norm : (rows set : List (List ℤ)) (i : ℕ) (v : List ℤ) → i < length set → v ≡ get_or set i [] →
+    AllByRecursion (IsKernelRow rows) set → norm v ≤ 9223372036854775807
 row_norm rows [] i v l e h = absurd (omega arith)
 row_norm rows (g ∷ set) zero v l e h = subst (λ (w : List ℤ). norm w ≤ 9223372036854775807) (sym e) h.0.small
 row_norm rows (g ∷ set) (suc i) v l e h = row_norm rows set i v (omega arith) e h.1

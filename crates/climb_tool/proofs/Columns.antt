@@ -1,6 +1,6 @@
 -- The first column with a fault: the steps of a loop over the columns, and what is true where there is none.
-use Rattle.std.proofs.Common.{◌≡◌, ℕ, zero, suc, ◌+◌, ◌≤◌, ◌<◌, List, [], ◌∷◌, length, get_or, drop, refl, ap, ap₂, sym, ◌∙◌, subst, arith, Bool, true, false, not, None, Some}
-use Rattle.std.specs.Prelude.{ℤ, pos, negsuc, nat_abs, nat_le, int_lt, ◌≤ℤ◌, ◌||◌, map, if◌then◌else◌}
+use Rattle.std.proofs.Common.{◌≡◌, ℕ, zero, suc, ◌+◌, ◌≤◌, ◌<◌, List, [], ◌∷◌, length, get_or, drop, refl, ap, ap₂, ◌∙◌, arith, Bool, true, false, None, Some}
+use Rattle.std.specs.Prelude.{ℤ, pos, nat_abs, int_lt, ◌≤ℤ◌, ◌||◌, map}
 use Rattle.std.specs.List.{AllByRecursion}
 use Rattle.std.proofs.lemmas.Int.{ints}
 use Rattle.std.proofs.lemmas.List.{drop_more}
@@ -21,10 +21,12 @@ left j true bs e = absurd (cc)
 left j false bs e = refl
 
 -- ---- the loop over one list
-pub column_taken : (test : ℤ → Bool) (v : List ℤ) (i : ℕ) (d : ℤ) → i < length v → test (get_or v i d) ≡ true → first_from (i + 1) (map test (drop i v)) ≡ Some (i + 1)
+pub column_taken : (test : ℤ → Bool) (v : List ℤ) (i : ℕ) (d : ℤ) → i < length v → test (get_or v i d) ≡ true →
+    first_from (i + 1) (map test (drop i v)) ≡ Some (i + 1)
 column_taken test v i d l e = ap (λ w. first_from (i + 1) (map test w)) (drop_more v i d l) ∙ taken (i + 1) (test (get_or v i d)) (map test (drop (i + 1) v)) e
 
-pub column_left : (test : ℤ → Bool) (v : List ℤ) (i : ℕ) (d : ℤ) → i < length v → test (get_or v i d) ≡ false → first_from (i + 1) (map test (drop i v)) ≡ first_from (i + 1 + 1) (map test (drop (i + 1) v))
+pub column_left : (test : ℤ → Bool) (v : List ℤ) (i : ℕ) (d : ℤ) → i < length v → test (get_or v i d) ≡ false →
+    first_from (i + 1) (map test (drop i v)) ≡ first_from (i + 1 + 1) (map test (drop (i + 1) v))
 column_left test v i d l e = ap (λ w. first_from (i + 1) (map test w)) (drop_more v i d l) ∙ left (i + 1) (test (get_or v i d)) (map test (drop (i + 1) v)) e
 
 nothing_behind : (v : List ℤ) (i : ℕ) → length v ≤ i → drop i v ≡ []

@@ -1,8 +1,8 @@
 -- From what was written and told to the end of the run.
-use Rattle.std.proofs.Common.{◌≡◌, ℕ, ◌+◌, ◌≤◌, List, [], ◌∷◌, ◌++◌, length, refl, ap, ap₂, sym, ◌∙◌, subst, inl, inr, Option, None, Some, Result, Ok, Err, codes, le_refl}
+use Rattle.std.proofs.Common.{◌≡◌, ℕ, ◌+◌, List, [], ◌∷◌, ◌++◌, length, refl, ap, ap₂, sym, ◌∙◌, subst, inl, inr, Option, None, Some}
+use Rattle.std.proofs.Common.{Result, Ok, Err, codes, le_refl}
 use Rattle.std.specs.Prelude.{ℤ, IfSome, OnOk, OnErr}
 use Rattle.std.proofs.lemmas.List.{take_all}
-use Rattle.std.specs.Option.{option_map}
 use Rattle.std.specs.List.{AllByRecursion}
 use Rattle.std.specs.Io.KnownBytes.{append_known}
 use Rattle.outside.specs.declared.ends.PutEnd.{PutEnd}
@@ -10,9 +10,8 @@ use Rattle.outside.specs.Files.{Files}
 use Rattle.outside.specs.Pieces.{MayPut}
 use Rattle.mat_files.specs.Cells.{Matrix}
 use Rattle.mat_files.specs.Printed.{text_of}
-use Rattle.solution_files.specs.Outputs.{written, MayWrite, grid_of, text_of_rows}
+use Rattle.solution_files.specs.Outputs.{written, grid_of, text_of_rows}
 use Rattle.solution_files.proofs.GridText.{text_of-rows}
-use Rattle.system_files.specs.Kernel.{rows_in}
 use Rattle.tool_frame.specs.Outputs.{OutputFile, IsCut, Traces}
 use Rattle.climb_tool.specs.declared.ends.Stop.{Stop}
 use Rattle.climb_tool.specs.declared.ends.Stop.TheVariants.{Usage, File, Shape, CostRange, UpperRange, Infeasible, NotKernel, Steps, Outside, Memory}
@@ -22,9 +21,11 @@ use Rattle.climb_tool.specs.Commands.{Command, command_in}
 use Rattle.climb_tool.specs.Problems.{Plan, problem_in, planned}
 use Rattle.climb_tool.specs.Paths.{Step, step_rows}
 use Rattle.climb_tool.specs.Inside.Walks.{Climbed}
-use Rattle.climb_tool.specs.Ends.{summary_of, output_of, AreInKernel, grid_files, both_written, reached_at, IsClimb, IsCutShort, Cut, Published, EndsWith, Ends}
+use Rattle.climb_tool.specs.Ends.{summary_of, output_of, AreInKernel, grid_files, both_written, reached_at, IsClimb, IsCutShort, Cut}
+use Rattle.climb_tool.specs.Ends.{Published, EndsWith, Ends}
 
-module _ (project : List ℕ) (p : Problem) (budget : ℕ) (taken : List Step) (point : List ℤ) (opt steps : Matrix) (reached : Reached) (climb : IsClimb p budget taken point)
+module _ (project : List ℕ) (p : Problem) (budget : ℕ) (taken : List Step) (point : List ℤ) (opt steps : Matrix) (reached : Reached)
+    (climb : IsClimb p budget taken point)
     (wide : length point ≡ p.mat.cols) (long : AllByRecursion (λ row. length row ≡ p.mat.cols + 1) (step_rows taken))
     (opt_is : opt ≡ grid_of p.mat.cols (point ∷ [])) (steps_is : steps ≡ grid_of (p.mat.cols + 1) (step_rows taken)) (reached_is : reached ≡ reached_at p taken point) where
   opt_text : text_of opt ≡ text_of_rows p.mat.cols (point ∷ [])
@@ -55,7 +56,8 @@ module _ (project : List ℕ) (p : Problem) (budget : ℕ) (taken : List Step) (
     part = inr (record { files = c.0 ∙ both_are files; out = subst (λ (r : Reached). MayPut (summary_of r) out out') reached_is c.1 });
   }
 
-  pub published_ends : (old new : Option Files) (out out' : Option (List ℕ)) (result : Result Reached Stop) → Published project opt steps reached old new out out' result →
+  pub published_ends : (old new : Option Files) (out out' : Option (List ℕ)) (result : Result Reached Stop) →
+      Published project opt steps reached old new out out' result →
       IfSome old (λ files. EndsWith project p budget (record { files_before = files; files_after = new; out_before = out; out_after = out' }) result)
   published_ends None new out out' result h = tt
   published_ends (Some files) new out out' (Ok r) h = record {
@@ -77,7 +79,8 @@ module _ (project : List ℕ) (p : Problem) (budget : ℕ) (taken : List Step) (
   published_ends (Some files) new out out' (Err (Steps d)) h = absurd h
 
 -- ---- where nothing is written
-pub stopped_ends : (project : List ℕ) (p : Problem) (budget : ℕ) (old : Option Files) (out : Option (List ℕ)) (stop : Stop) → AreInKernel p → Climbed p budget (Err stop) →
+pub stopped_ends : (project : List ℕ) (p : Problem) (budget : ℕ) (old : Option Files) (out : Option (List ℕ)) (stop : Stop) →
+    AreInKernel p → Climbed p budget (Err stop) →
     IfSome old (λ files. EndsWith project p budget (record { files_before = files; files_after = old; out_before = out; out_after = out }) (Err stop))
 stopped_ends project p budget None out stop kernel h = tt
 stopped_ends project p budget (Some files) out (Steps done) kernel h = (
@@ -104,11 +107,13 @@ stopped_ends project p budget (Some files) out (NotKernel row) kernel h = absurd
 stopped_ends project p budget (Some files) out Outside kernel h = absurd h
 
 -- ---- the steps before
-planned_is : (words : List (List ℕ)) (command : Command) (files : Files) (p : Problem) → command_in words ≡ Some command → problem_in command.project files ≡ Ok p →
+planned_is : (words : List (List ℕ)) (command : Command) (files : Files) (p : Problem) → command_in words ≡ Some command →
+    problem_in command.project files ≡ Ok p →
     planned words files ≡ Ok (record { project = command.project; budget = command.budget; problem = p })
 planned_is words command files p e f = rw (e, f)
 
-ends_of : (plan : Result Plan Stop) (q : Plan) (t : Traces) (result : Result Reached Stop) → plan ≡ Ok q → EndsWith q.project q.problem q.budget t result → Ends plan t result
+ends_of : (plan : Result Plan Stop) (q : Plan) (t : Traces) (result : Result Reached Stop) → plan ≡ Ok q →
+    EndsWith q.project q.problem q.budget t result → Ends plan t result
 ends_of plan q t (Ok r) e h = (q, e, h)
 ends_of plan q t (Err (NotKernel row)) e h = (q, e, h.0, h.1)
 ends_of plan q t (Err (Steps done)) e h = (q, e, h.0, h.1)
@@ -123,7 +128,8 @@ ends_of plan q t (Err (CostRange j)) e h = absurd h
 ends_of plan q t (Err (UpperRange j)) e h = absurd h
 ends_of plan q t (Err (Infeasible j)) e h = absurd h
 
-concluded_at : (words : List (List ℕ)) (command : Command) (p : Problem) (old new : Option Files) (out out' : Option (List ℕ)) (result : Result Reached Stop) → command_in words ≡ Some command →
+concluded_at : (words : List (List ℕ)) (command : Command) (p : Problem) (old new : Option Files) (out out' : Option (List ℕ)) (result : Result Reached Stop) →
+    command_in words ≡ Some command →
     IfSome old (λ files. problem_in command.project files ≡ Ok p) →
     IfSome old (λ files. EndsWith command.project p command.budget (record { files_before = files; files_after = new; out_before = out; out_after = out' }) result) →
     IfSome old (λ files. Ends (planned words files) (record { files_before = files; files_after = new; out_before = out; out_after = out' }) result)
@@ -132,7 +138,8 @@ concluded_at words command p (Some files) new out out' result e f h =
     ends_of (planned words files) (record { project = command.project; budget = command.budget; problem = p })
     (record { files_before = files; files_after = new; out_before = out; out_after = out' }) result (planned_is words command files p e f) h
 
-pub ends_concluded : (words : List (List ℕ)) (command : Command) (p : Problem) (old mid new : Option Files) (out out' : Option (List ℕ)) (result : Result Reached Stop) → command_in words ≡ Some command → mid ≡ old →
+pub ends_concluded : (words : List (List ℕ)) (command : Command) (p : Problem) (old mid new : Option Files) (out out' : Option (List ℕ)) (result : Result Reached Stop) →
+    command_in words ≡ Some command → mid ≡ old →
     IfSome old (λ files. problem_in command.project files ≡ Ok p) →
     IfSome mid (λ files. EndsWith command.project p command.budget (record { files_before = files; files_after = new; out_before = out; out_after = out' }) result) →
     IfSome old (λ files. Ends (planned words files) (record { files_before = files; files_after = new; out_before = out; out_after = out' }) result)
@@ -141,6 +148,7 @@ ends_concluded words command p old mid new out out' result e same f h =
     (subst (λ (o : Option Files). IfSome o (λ files. EndsWith command.project p command.budget (record { files_before = files; files_after = new; out_before = out; out_after = out' }) result)) same h)
 
 -- ---- the line on standard error
-pub said : (text : List ℕ) (old new : Option (List ℕ)) (r : Result (Unit {0}) PutEnd) → OnOk r (new ≡ append_known old text) → OnErr r (MayPut text old new) → MayPut text old new
+pub said : (text : List ℕ) (old new : Option (List ℕ)) (r : Result (Unit {0}) PutEnd) → OnOk r (new ≡ append_known old text) →
+    OnErr r (MayPut text old new) → MayPut text old new
 said text old new (Ok u) done cut = (length text, done ∙ ap (append_known old) (sym (take_all (length text) text (le_refl (length text)))))
 said text old new (Err end) done cut = cut

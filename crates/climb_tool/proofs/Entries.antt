@@ -1,13 +1,14 @@
 -- Points within their bounds, entry by entry, and vectors or their negatives.
-use Rattle.std.proofs.Common.{◌≡◌, ℕ, zero, suc, ◌+◌, ◌*◌, ◌/◌, ◌<◌, ◌≤◌, List, [], ◌∷◌, ◌++◌, length, get_or, take, drop, set, refl, ap, ap₂, sym, ◌∙◌, subst, arith, Bool, true, false, inl, inr, ◌⊎◌, min, append_assoc}
-use Rattle.std.specs.Prelude.{ℤ, pos, negsuc, neg_ℤ, nat_abs, int_lt, ◌+ℤ◌, ◌-ℤ◌, ◌*ℤ◌, ◌≤ℤ◌, ◌<ℤ◌, ◌↔◌, All}
+use Rattle.std.proofs.Common.{◌≡◌, ℕ, zero, suc, ◌+◌, ◌*◌, ◌/◌, ◌<◌, ◌≤◌, List, [], ◌∷◌, ◌++◌, length, get_or, take, drop, set, refl, ap}
+use Rattle.std.proofs.Common.{ap₂, sym, ◌∙◌, subst, arith, Bool, true, false, inl, inr, min, append_assoc}
+use Rattle.std.specs.Prelude.{ℤ, pos, negsuc, neg_ℤ, nat_abs, int_lt, ◌+ℤ◌, ◌-ℤ◌, ◌*ℤ◌, ◌≤ℤ◌, ◌<ℤ◌, ◌↔◌}
 use Rattle.std.specs.List.{AllByRecursion}
 use Rattle.std.proofs.lemmas.Int.{ints, unsigned_abs-mul, fits_signed_from_abs}
 use Rattle.std.proofs.lemmas.List.{drop_more, drop-set-lt}
 use Rattle.std.proofs.lemmas.Grind.{drop_more_same}
 use Rattle.int_vector.proofs.Sums.{sum_step, sum_done}
 use Rattle.std.proofs.Math.Nat.{mul-le-mul_right, le-div_iff_mul-le}
-use Rattle.std.proofs.Common.{SFits, w64}
+use Rattle.std.proofs.Common.{SFits}
 use mir.Syntax.{w128}
 use Rattle.int_vector.specs.Range.{InRange}
 use Rattle.int_vector.specs.Vectors.{norm, dot, negated, IsZero}
@@ -63,19 +64,26 @@ within_length (u ∷ upper) (a ∷ x) h = ap suc (within_length upper x h.1)
 abbrev pub Fits : ℤ → ℤ → ℤ → Type 0
 Fits u a g = (pos 0 ≤ℤ (a +ℤ g)) × ((a +ℤ g) ≤ℤ u)
 
--- what is within the bounds behind place i is the entry there, and what is behind
-pub within_more : (upper x g : List ℤ) (i : ℕ) (d : ℤ) → i < length upper → length x ≡ length upper → length g ≡ length upper →
-    IsWithinBounds (drop i upper) (add (drop i x) (drop i g)) ↔ (Fits (get_or upper i d) (get_or x i d) (get_or g i d) × IsWithinBounds (drop (i + 1) upper) (add (drop (i + 1) x) (drop (i + 1) g)))
-within_more upper x g i d l m n =
-    subst (λ (v : List ℤ). IsWithinBounds v (add (drop i x) (drop i g)) ↔ (Fits (get_or upper i d) (get_or x i d) (get_or g i d) × IsWithinBounds (drop (i + 1) upper) (add (drop (i + 1) x) (drop (i + 1) g))))
-    (sym (drop_more upper i d l))
-    (subst (λ (v : List ℤ). IsWithinBounds (get_or upper i d ∷ drop (i + 1) upper) (add v (drop i g)) ↔ (Fits (get_or upper i d) (get_or x i d) (get_or g i d) × IsWithinBounds (drop (i + 1) upper) (add (drop (i + 1) x) (drop (i + 1) g))))
-    (sym (drop_more x i d (omega (arith, l, m))))
-    (subst (λ (v : List ℤ). IsWithinBounds (get_or upper i d ∷ drop (i + 1) upper) (add (get_or x i d ∷ drop (i + 1) x) v) ↔ (Fits (get_or upper i d) (get_or x i d) (get_or g i d) × IsWithinBounds (drop (i + 1) upper) (add (drop (i + 1) x) (drop (i + 1) g))))
-    (sym (drop_more g i d (omega (arith, l, n))))
-    (λ h. h, λ h. h)))
+-- what is within the bounds from place i on is the entry there, and what is behind
+abbrev Behind : List ℤ → List ℤ → List ℤ → ℕ → Type 0
+Behind upper x g i = IsWithinBounds (drop i upper) (add (drop i x) (drop i g))
 
-pub within_end : (upper x g : List ℤ) (i : ℕ) → length upper ≤ i → length x ≡ length upper → length g ≡ length upper → IsWithinBounds (drop i upper) (add (drop i x) (drop i g))
+abbrev Here : List ℤ → List ℤ → List ℤ → ℕ → ℤ → Type 0
+Here upper x g i d = Fits (get_or upper i d) (get_or x i d) (get_or g i d)
+
+first_and_others : (u a b : ℤ) (upper x g first second third : List ℤ) → first ≡ u ∷ upper → second ≡ a ∷ x → third ≡ b ∷ g →
+    IsWithinBounds first (add second third) ↔ (Fits u a b × IsWithinBounds upper (add x g))
+first_and_others u a b upper x g first second third e f h = rw (e, f, h) (λ w. w, λ w. w)
+
+pub within_more : (upper x g : List ℤ) (i : ℕ) (d : ℤ) → i < length upper → length x ≡ length upper → length g ≡ length upper →
+    Behind upper x g i ↔ (Here upper x g i d × Behind upper x g (i + 1))
+within_more upper x g i d l m n =
+    first_and_others (get_or upper i d) (get_or x i d) (get_or g i d)
+    (drop (i + 1) upper) (drop (i + 1) x) (drop (i + 1) g) (drop i upper) (drop i x) (drop i g)
+    (drop_more upper i d l) (drop_more x i d (omega (arith, l, m))) (drop_more g i d (omega (arith, l, n)))
+
+pub within_end : (upper x g : List ℤ) (i : ℕ) → length upper ≤ i → length x ≡ length upper → length g ≡ length upper →
+    IsWithinBounds (drop i upper) (add (drop i x) (drop i g))
 within_end [] [] [] zero l e f = tt
 within_end [] [] [] (suc i) l e f = tt
 within_end [] (a ∷ x) g i l e f = absurd (omega arith)
@@ -86,13 +94,15 @@ within_end (u ∷ upper) (a ∷ x) [] (suc i) l e f = absurd (omega arith)
 within_end (u ∷ upper) (a ∷ x) (b ∷ g) (suc i) l e f = within_end upper x g i (omega arith) (omega arith) (omega arith)
 
 -- the entry of a point within the bounds
-pub entry_within : (upper x : List ℤ) (i : ℕ) (d : ℤ) → i < length upper → IsWithinBounds upper x → (pos 0 ≤ℤ get_or x i d) × (get_or x i d ≤ℤ get_or upper i d)
+pub entry_within : (upper x : List ℤ) (i : ℕ) (d : ℤ) → i < length upper → IsWithinBounds upper x →
+    (pos 0 ≤ℤ get_or x i d) × (get_or x i d ≤ℤ get_or upper i d)
 entry_within [] x i d l h = absurd (omega arith)
 entry_within (u ∷ upper) [] i d l h = absurd h
 entry_within (u ∷ upper) (a ∷ x) zero d l h = h.0
 entry_within (u ∷ upper) (a ∷ x) (suc i) d l h = entry_within upper x i d (omega arith) h.1
 
-pub entry_of_sum : (upper x g : List ℤ) (i : ℕ) (d : ℤ) → i < length upper → length x ≡ length upper → length g ≡ length upper → IsWithinBounds upper (add x g) →
+pub entry_of_sum : (upper x g : List ℤ) (i : ℕ) (d : ℤ) → i < length upper → length x ≡ length upper → length g ≡ length upper →
+    IsWithinBounds upper (add x g) →
     Fits (get_or upper i d) (get_or x i d) (get_or g i d)
 entry_of_sum [] x g i d l e f h = absurd (omega arith)
 entry_of_sum (u ∷ upper) [] g i d l e f h = absurd (omega arith)
@@ -102,7 +112,8 @@ entry_of_sum (u ∷ upper) (a ∷ x) (b ∷ g) (suc i) d l e f h = entry_of_sum 
 
 -- ---- how often an entry can be moved
 up_room : (u a : ℤ) (s d : ℕ) → pos 0 ≤ℤ a → a ≤ℤ u → 0 < s → Fits u a (pos d *ℤ pos s) ↔ (d ≤ nat_abs (u -ℤ a) / s)
-up_room u a s d low high h = (λ f. (le-div_iff_mul-le {k = s} {x = d} {y = nat_abs (u -ℤ a)} h).1 (below f), λ f. above ((le-div_iff_mul-le {k = s} {x = d} {y = nat_abs (u -ℤ a)} h).0 f)) where
+up_room u a s d low high h =
+    (λ f. (le-div_iff_mul-le {k = s} {x = d} {y = nat_abs (u -ℤ a)} h).1 (below f), λ f. above ((le-div_iff_mul-le {k = s} {x = d} {y = nat_abs (u -ℤ a)} h).0 f)) where
   below : Fits u a (pos d *ℤ pos s) → d * s ≤ nat_abs (u -ℤ a)
   below f = grind (arith, ints, f, low, high)
 
@@ -110,7 +121,8 @@ up_room u a s d low high h = (λ f. (le-div_iff_mul-le {k = s} {x = d} {y = nat_
   above f = grind (arith, ints, f, low, high)
 
 down_room : (u a : ℤ) (s d : ℕ) → pos 0 ≤ℤ a → a ≤ℤ u → Fits u a (pos d *ℤ negsuc s) ↔ (d ≤ nat_abs a / suc s)
-down_room u a s d low high = (λ f. (le-div_iff_mul-le {k = suc s} {x = d} {y = nat_abs a} (omega arith)).1 (below f), λ f. above ((le-div_iff_mul-le {k = suc s} {x = d} {y = nat_abs a} (omega arith)).0 f)) where
+down_room u a s d low high =
+    (λ f. (le-div_iff_mul-le {k = suc s} {x = d} {y = nat_abs a} (omega arith)).1 (below f), λ f. above ((le-div_iff_mul-le {k = suc s} {x = d} {y = nat_abs a} (omega arith)).0 f)) where
   below : Fits u a (pos d *ℤ negsuc s) → d * suc s ≤ nat_abs a
   below f = grind (arith, ints, f, low, high)
 
@@ -151,7 +163,8 @@ product_small u a (negsuc s) d r low high f n =
       least : (s d : ℕ) → d ≤ d * suc s
       least s d = omega arith
 
-pub steps_bounded : (upper x g : List ℤ) (d : ℕ) → AllByRecursion InRange upper → IsWithinBounds upper x → length g ≡ length upper → (IsZero g → ⊥) → IsWithinBounds upper (add x (times d g)) → d ≤ 9223372036854775807
+pub steps_bounded : (upper x g : List ℤ) (d : ℕ) → AllByRecursion InRange upper → IsWithinBounds upper x → length g ≡ length upper →
+    (IsZero g → ⊥) → IsWithinBounds upper (add x (times d g)) → d ≤ 9223372036854775807
 steps_bounded [] [] [] d r w l n h = absurd (n tt)
 steps_bounded [] (a ∷ x) g d r w l n h = absurd w
 steps_bounded [] [] (b ∷ g) d r w l n h = absurd (omega arith)
@@ -164,7 +177,8 @@ steps_bounded (u ∷ upper) (a ∷ x) (b ∷ g) d r w l n h =
     ]
 
 -- ---- costs
-pub cost_at : (cost : List ℤ) (i : ℕ) (d : ℤ) → i < length cost → AllByRecursion (λ c. nat_abs c ≤ 72057594037927936) cost → nat_abs (get_or cost i d) ≤ 72057594037927936
+pub cost_at : (cost : List ℤ) (i : ℕ) (d : ℤ) → i < length cost → AllByRecursion (λ c. nat_abs c ≤ 72057594037927936) cost →
+    nat_abs (get_or cost i d) ≤ 72057594037927936
 cost_at [] i d l h = absurd (omega arith)
 cost_at (c ∷ cost) zero d l h = h.0
 cost_at (c ∷ cost) (suc i) d l h = cost_at cost i d (omega arith) h.1
@@ -175,13 +189,15 @@ cost_product c y h = let m : nat_abs c * nat_abs y ≤ 72057594037927936 * nat_a
 abs-sum : (a b : ℤ) → nat_abs (a +ℤ b) ≤ nat_abs a + nat_abs b
 abs-sum a b = omega (arith, ints)
 
-pub sum_small : (s c y : ℤ) (n : ℕ) → nat_abs s ≤ 72057594037927936 * n → nat_abs c ≤ 72057594037927936 → nat_abs (s +ℤ (c *ℤ y)) ≤ 72057594037927936 * (n + nat_abs y)
+pub sum_small : (s c y : ℤ) (n : ℕ) → nat_abs s ≤ 72057594037927936 * n → nat_abs c ≤ 72057594037927936 →
+    nat_abs (s +ℤ (c *ℤ y)) ≤ 72057594037927936 * (n + nat_abs y)
 sum_small s c y n h f = omega (arith, abs-sum s (c *ℤ y), cost_product c y f)
 
 pub product_fits : (c y : ℤ) → nat_abs c ≤ 72057594037927936 → nat_abs y ≤ 590295810358705651712 → SFits w128 (c *ℤ y)
 product_fits c y f g = fits_signed_from_abs w128 (c *ℤ y) (omega (arith, cost_product c y f))
 
-pub sum_fits : (s c y : ℤ) (n : ℕ) → nat_abs s ≤ 72057594037927936 * n → nat_abs c ≤ 72057594037927936 → n + nat_abs y ≤ 590295810358705651712 → SFits w128 (s +ℤ (c *ℤ y))
+pub sum_fits : (s c y : ℤ) (n : ℕ) → nat_abs s ≤ 72057594037927936 * n → nat_abs c ≤ 72057594037927936 →
+    n + nat_abs y ≤ 590295810358705651712 → SFits w128 (s +ℤ (c *ℤ y))
 sum_fits s c y n h f k = fits_signed_from_abs w128 (s +ℤ (c *ℤ y)) (omega (arith, sum_small s c y n h f))
 
 -- the norm of a point of at most 64 entries in range
@@ -214,7 +230,8 @@ pub fits_not : (upper x g : List ℤ) (i : ℕ) (t : ℤ) → i < length upper �
 fits_not upper x g i t l point long is n w =
     n (subst (Fits (get_or upper i (pos 0)) (get_or x i (pos 0))) (sym is) (entry_of_sum upper x g i (pos 0) l (sym (within_length upper x point)) long w))
 
-pub greatest_step : (upper x g : List ℤ) (i d most r new : ℕ) (t : ℤ) → i < length upper → IsWithinBounds upper x → length g ≡ length upper → t ≡ get_or g i (pos 0) → new ≡ min most r →
+pub greatest_step : (upper x g : List ℤ) (i d most r new : ℕ) (t : ℤ) → i < length upper → IsWithinBounds upper x →
+    length g ≡ length upper → t ≡ get_or g i (pos 0) → new ≡ min most r →
     Fits (get_or upper i (pos 0)) (get_or x i (pos 0)) (pos d *ℤ t) ↔ (d ≤ r) →
     IsWithinBounds upper (add x (times d g)) ↔ ((d ≤ most) × IsWithinBounds (drop i upper) (add (drop i x) (drop i (times d g)))) →
     IsWithinBounds upper (add x (times d g)) ↔ ((d ≤ new) × IsWithinBounds (drop (i + 1) upper) (add (drop (i + 1) x) (drop (i + 1) (times d g))))
@@ -232,7 +249,8 @@ greatest_step upper x g i d most r new t l point long is least f h =
           h.1 (a, m.1 (subst (Fits (get_or upper i (pos 0)) (get_or x i (pos 0))) (sym at) (f.1 b), p.1)),
     )
 
-pub greatest_end : (upper x g : List ℤ) (i most : ℕ) → length upper ≤ i → AllByRecursion InRange upper → IsWithinBounds upper x → length g ≡ length upper → (IsZero g → ⊥) → most ≤ 9223372036854775807 →
+pub greatest_end : (upper x g : List ℤ) (i most : ℕ) → length upper ≤ i → AllByRecursion InRange upper → IsWithinBounds upper x →
+    length g ≡ length upper → (IsZero g → ⊥) → most ≤ 9223372036854775807 →
     ((d : ℕ) → d ≤ 9223372036854775807 → IsWithinBounds upper (add x (times d g)) ↔ ((d ≤ most) × IsWithinBounds (drop i upper) (add (drop i x) (drop i (times d g))))) → IsGreatest upper x g most
 greatest_end upper x g i most l range point long nonzero small h = record {
   within = (h most small).1 (omega arith, within_end upper x (times most g) i l (sym (within_length upper x point)) (length-times most g ∙ long));
@@ -240,20 +258,24 @@ greatest_end upper x g i most l range point long nonzero small h = record {
 }
 
 -- a point that is moved entry by entry
-pub moved_entry : (upper start t x : List ℤ) (i : ℕ) (y : ℤ) → length x ≡ length upper → IsWithinBounds upper start → length t ≡ length upper → i < length upper → drop i x ≡ drop i start →
+pub moved_entry : (upper start t x : List ℤ) (i : ℕ) (y : ℤ) → length x ≡ length upper → IsWithinBounds upper start →
+    length t ≡ length upper → i < length upper → drop i x ≡ drop i start →
     y ≡ get_or x i (pos 0) +ℤ get_or t i (pos 0) → y ≡ get_or start i (pos 0) +ℤ get_or t i (pos 0)
 moved_entry upper start t x i y m point long l others is =
     is ∙ ap (λ a. a +ℤ get_or t i (pos 0)) (entry_same x start i (pos 0) others (omega (arith, m, l)) (omega (arith, within_length upper start point, l)))
 
-pub moved_taken : (upper start t x : List ℤ) (i : ℕ) (y : ℤ) → length x ≡ length upper → IsWithinBounds upper start → length t ≡ length upper → i < length upper →
+pub moved_taken : (upper start t x : List ℤ) (i : ℕ) (y : ℤ) → length x ≡ length upper → IsWithinBounds upper start →
+    length t ≡ length upper → i < length upper →
     take i x ≡ take i (add start t) → y ≡ get_or start i (pos 0) +ℤ get_or t i (pos 0) → take (i + 1) (set x i y) ≡ take (i + 1) (add start t)
 moved_taken upper start t x i y m point long l done is =
-    sum_step start t x i y (m ∙ within_length upper start point) (long ∙ within_length upper start point) (omega (arith, within_length upper start point, l)) done is
+    sum_step start t x i y (m ∙ within_length upper start point) (long ∙ within_length upper start point)
+    (omega (arith, within_length upper start point, l)) done is
 
 pub moved_others : (start x : List ℤ) (i : ℕ) (y : ℤ) → drop i x ≡ drop i start → drop (i + 1) (set x i y) ≡ drop (i + 1) start
 moved_others start x i y others = drop-set-lt (i + 1) x i y (omega arith) ∙ drop_more_same x start i others
 
-pub moved_all : (upper start t x : List ℤ) (i : ℕ) → length x ≡ length upper → IsWithinBounds upper start → length t ≡ length upper → length upper ≤ i → take i x ≡ take i (add start t) → x ≡ add start t
+pub moved_all : (upper start t x : List ℤ) (i : ℕ) → length x ≡ length upper → IsWithinBounds upper start → length t ≡ length upper →
+    length upper ≤ i → take i x ≡ take i (add start t) → x ≡ add start t
 moved_all upper start t x i m point long l done =
     sum_done start t x i (m ∙ within_length upper start point) (long ∙ within_length upper start point) (omega (arith, m, l)) done
 
@@ -281,7 +303,8 @@ nothing_added (x ∷ v) = ap (λ w. x ∷ w) (nothing_added v)
 pub cells_begun : (old first : List ℤ) (c : ℤ) (g : List ℤ) → first ≡ old ++ (c ∷ []) → first ++ g ≡ old ++ (c ∷ g)
 cells_begun old first c g e = ap (λ w. w ++ g) e ∙ append_assoc old (c ∷ []) g
 
-pub cells_pushed : (b : Bool) (v cells new whole : List ℤ) (i : ℕ) (e : ℤ) → i < length v → e ≡ turned_entry b (get_or v i (pos 0)) → new ≡ cells ++ (e ∷ []) →
+pub cells_pushed : (b : Bool) (v cells new whole : List ℤ) (i : ℕ) (e : ℤ) → i < length v → e ≡ turned_entry b (get_or v i (pos 0)) →
+    new ≡ cells ++ (e ∷ []) →
     cells ++ turned b (drop i v) ≡ whole → new ++ turned b (drop (i + 1) v) ≡ whole
 cells_pushed b v cells new whole i e l is pushed h =
     cells_begun cells new e (turned b (drop (i + 1) v)) pushed

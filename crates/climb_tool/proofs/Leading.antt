@@ -1,21 +1,21 @@
 -- Paths: one step more, what stays the same along them, and where they end.
-use Rattle.std.proofs.Common.{◌≡◌, ℕ, suc, ◌+◌, ◌*◌, ◌≤◌, List, [], ◌∷◌, ◌++◌, length, map, refl, ap, ap₂, sym, ◌∙◌, subst, arith, append_assoc, length-append}
-use Rattle.std.specs.Prelude.{ℤ, pos, ◌+ℤ◌, ◌*ℤ◌, ◌≤ℤ◌, None}
+use Rattle.std.proofs.Common.{◌≡◌, ℕ, ◌+◌, ◌*◌, ◌≤◌, List, [], ◌∷◌, ◌++◌, length, refl, ap, sym, ◌∙◌, subst, arith, append_assoc, length-append}
+use Rattle.std.specs.Prelude.{ℤ, pos, ◌+ℤ◌, ◌*ℤ◌, ◌≤ℤ◌}
 use Rattle.std.specs.List.{AllByRecursion, flat_map}
 use Rattle.std.proofs.lemmas.Int.{ints}
 use Rattle.std.proofs.lemmas.List.Elements.{length_all_zip, recursion_from_All}
 use Rattle.int_vector.specs.Range.{InRange}
-use Rattle.int_vector.specs.Vectors.{dot, negated, norm}
+use Rattle.int_vector.specs.Vectors.{dot, norm}
 use Rattle.int_vector.specs.Operations.{add}
 use Rattle.int_vector.proofs.Vectors.{dot-add}
 use Rattle.lift_core.specs.Lists.{cut_rows}
 use Rattle.lift_core.proofs.Cells.{cut_rows-lengths}
 use Rattle.system_files.specs.Kernel.{rows_in, IsInKernel, IsKernelRow}
-use Rattle.system_files.specs.Basis.{IsGraverBasis}
 use Rattle.system_files.proofs.Negatives.{length-negated}
 use Rattle.system_files.proofs.Kernels.{kernel_negated}
 use Rattle.climb_tool.specs.declared.problems.Problem.{Problem}
-use Rattle.climb_tool.specs.Paths.{IsWithinBounds, times, Helps, candidates, NoneHelps, IsFirstToHelp, IsGreatest, Step, step_rows, after_step, IsStep, IsPath, IsFalling, IsOptimalFrom}
+use Rattle.climb_tool.specs.Paths.{IsWithinBounds, times, candidates, NoneHelps, IsFirstToHelp, IsGreatest, Step, step_rows, after_step}
+use Rattle.climb_tool.specs.Paths.{IsStep, IsPath, IsFalling}
 use Rattle.climb_tool.specs.Problems.{IsProblem}
 use Rattle.climb_tool.specs.Ends.{AreInKernel, IsClimb}
 use Rattle.climb_tool.specs.declared.climbing.Path.{Path}
@@ -24,7 +24,8 @@ use Rattle.climb_tool.proofs.Entries.{length-times, norm_in_range, within_small}
 use Rattle.climb_tool.proofs.Optimal.{dot-times, cost_falls, stuck_is_optimal}
 
 -- ---- one step more
-pub path_more : (upper cost : List ℤ) (set : List (List ℤ)) (x : List ℤ) (steps : List Step) (y z : List ℤ) (s : Step) → IsPath upper cost set x steps y → IsStep upper cost set y s → z ≡ after_step y s →
+pub path_more : (upper cost : List ℤ) (set : List (List ℤ)) (x : List ℤ) (steps : List Step) (y z : List ℤ) (s : Step) →
+    IsPath upper cost set x steps y → IsStep upper cost set y s → z ≡ after_step y s →
     IsPath upper cost set x (steps ++ (s ∷ [])) z
 path_more upper cost set x [] y z s p step e = (subst (λ (w : List ℤ). IsStep upper cost set w s) (sym p) step, ap (λ w. after_step w s) p ∙ sym e)
 path_more upper cost set x (t ∷ steps) y z s p step e = (p.0, path_more upper cost set (after_step x t) steps y z s p.1 step e)
@@ -41,9 +42,11 @@ flat_more : (rows : List (List ℤ)) (r : List ℤ) → flat_map (λ row. row) (
 flat_more [] r = append_nothing r
 flat_more (q ∷ rows) r = ap (λ t. q ++ t) (flat_more rows r) ∙ sym (append_assoc q (flat_map (λ row. row) rows) r)
 
-pub cells_more : (steps : List Step) (s : Step) (cells more : List ℤ) → cells ≡ flat_map (λ row. row) (step_rows steps) → more ≡ cells ++ (pos s.count ∷ s.by) →
+pub cells_more : (steps : List Step) (s : Step) (cells more : List ℤ) → cells ≡ flat_map (λ row. row) (step_rows steps) →
+    more ≡ cells ++ (pos s.count ∷ s.by) →
     more ≡ flat_map (λ row. row) (step_rows (steps ++ (s ∷ [])))
-cells_more steps s cells more e f = f ∙ ap (λ c. c ++ (pos s.count ∷ s.by)) e ∙ sym (ap (flat_map (λ row. row)) (rows_more steps s) ∙ flat_more (step_rows steps) (pos s.count ∷ s.by))
+cells_more steps s cells more e f =
+    f ∙ ap (λ c. c ++ (pos s.count ∷ s.by)) e ∙ sym (ap (flat_map (λ row. row)) (rows_more steps s) ∙ flat_more (step_rows steps) (pos s.count ∷ s.by))
 
 pub one_cell : (v : List ℤ) → v ≡ flat_map (λ row. row) (v ∷ [])
 one_cell v = sym (append_nothing v)
@@ -52,12 +55,15 @@ pub length_more : (steps : List Step) (s : Step) → length (steps ++ (s ∷ [])
 length_more [] s = refl
 length_more (t ∷ steps) s = omega (arith, length_more steps s)
 
-each_more : (n : ℕ) (rows : List (List ℤ)) (r : List ℤ) → AllByRecursion (λ row. length row ≡ n) rows → length r ≡ n → AllByRecursion (λ row. length row ≡ n) (rows ++ (r ∷ []))
+each_more : (n : ℕ) (rows : List (List ℤ)) (r : List ℤ) → AllByRecursion (λ row. length row ≡ n) rows → length r ≡ n →
+    AllByRecursion (λ row. length row ≡ n) (rows ++ (r ∷ []))
 each_more n [] r h e = (e, tt)
 each_more n (q ∷ rows) r h e = (h.0, each_more n rows r h.1 e)
 
-pub lengths_more : (n : ℕ) (steps : List Step) (s : Step) → AllByRecursion (λ row. length row ≡ n + 1) (step_rows steps) → length s.by ≡ n → AllByRecursion (λ row. length row ≡ n + 1) (step_rows (steps ++ (s ∷ [])))
-lengths_more n steps s h e = subst (AllByRecursion (λ row. length row ≡ n + 1)) (sym (rows_more steps s)) (each_more (n + 1) (step_rows steps) (pos s.count ∷ s.by) h (omega (arith, e)))
+pub lengths_more : (n : ℕ) (steps : List Step) (s : Step) → AllByRecursion (λ row. length row ≡ n + 1) (step_rows steps) → length s.by ≡ n →
+    AllByRecursion (λ row. length row ≡ n + 1) (step_rows (steps ++ (s ∷ [])))
+lengths_more n steps s h e =
+    subst (AllByRecursion (λ row. length row ≡ n + 1)) (sym (rows_more steps s)) (each_more (n + 1) (step_rows steps) (pos s.count ∷ s.by) h (omega (arith, e)))
 
 pub small-append : (P : ℤ → Type 0) (xs ys : List ℤ) → AllByRecursion P xs → AllByRecursion P ys → AllByRecursion P (xs ++ ys)
 small-append P [] ys h k = k
@@ -68,7 +74,8 @@ at_place : (P : List ℤ → Type 0) (before after : List (List ℤ)) (g : List 
 at_place P [] after g h = h.0
 at_place P (b ∷ before) after g h = at_place P before after g h.1
 
-first_has : (P : List ℤ → Type 0) (upper cost x : List ℤ) (vectors : List (List ℤ)) (g : List ℤ) → AllByRecursion P vectors → IsFirstToHelp upper cost x vectors g → P g
+first_has : (P : List ℤ → Type 0) (upper cost x : List ℤ) (vectors : List (List ℤ)) (g : List ℤ) → AllByRecursion P vectors →
+    IsFirstToHelp upper cost x vectors g → P g
 first_has P upper cost x vectors g h f = at_place P f.before f.after g (subst (AllByRecursion P) f.place h)
 
 candidates_long : (n : ℕ) (set : List (List ℤ)) → AllByRecursion (λ g. length g ≡ n) set → AllByRecursion (λ g. length g ≡ n) (candidates set)
@@ -88,16 +95,19 @@ no_change p q c e = ap (λ z. p +ℤ (pos c *ℤ z)) e ∙ nothing p c where
   nothing : (p : ℤ) (c : ℕ) → p +ℤ (pos c *ℤ pos 0) ≡ p
   nothing p c = grind (arith, ints)
 
-same_after : (rows : List (List ℤ)) (x g : List ℤ) (c : ℕ) → length x ≡ length g → IsInKernel rows g → AllByRecursion (λ r. dot r (add x (times c g)) ≡ dot r x) rows
+same_after : (rows : List (List ℤ)) (x g : List ℤ) (c : ℕ) → length x ≡ length g → IsInKernel rows g →
+    AllByRecursion (λ r. dot r (add x (times c g)) ≡ dot r x) rows
 same_after [] x g c l k = tt
 same_after (r ∷ rows) x g c l k =
     (dot-add r x (times c g) (l ∙ sym (length-times c g)) ∙ ap (λ p. dot r x +ℤ p) (dot-times c r g) ∙ no_change (dot r x) (dot r g) c k.0, same_after rows x g c l k.1)
 
-same_through : (rows : List (List ℤ)) (x y z : List ℤ) → AllByRecursion (λ r. dot r y ≡ dot r x) rows → AllByRecursion (λ r. dot r z ≡ dot r y) rows → AllByRecursion (λ r. dot r z ≡ dot r x) rows
+same_through : (rows : List (List ℤ)) (x y z : List ℤ) → AllByRecursion (λ r. dot r y ≡ dot r x) rows →
+    AllByRecursion (λ r. dot r z ≡ dot r y) rows → AllByRecursion (λ r. dot r z ≡ dot r x) rows
 same_through [] x y z h k = tt
 same_through (r ∷ rows) x y z h k = (k.0 ∙ h.0, same_through rows x y z h.1 k.1)
 
-same_back : (rows : List (List ℤ)) (x y z : List ℤ) → AllByRecursion (λ r. dot r y ≡ dot r x) rows → AllByRecursion (λ r. dot r z ≡ dot r x) rows → AllByRecursion (λ r. dot r z ≡ dot r y) rows
+same_back : (rows : List (List ℤ)) (x y z : List ℤ) → AllByRecursion (λ r. dot r y ≡ dot r x) rows →
+    AllByRecursion (λ r. dot r z ≡ dot r x) rows → AllByRecursion (λ r. dot r z ≡ dot r y) rows
 same_back [] x y z h k = tt
 same_back (r ∷ rows) x y z h k = (k.0 ∙ sym h.0, same_back rows x y z h.1 k.1)
 
@@ -116,7 +126,8 @@ module _ (n : ℕ) (upper cost : List ℤ) (rows set : List (List ℤ)) (long : 
   falls x [] y l p = tt
   falls x (s ∷ steps) y l p = (cost_falls upper cost x set s (step_long x s p.0 ∙ sym l) p.0, falls (after_step x s) steps y (after_long x s p.0) p.1)
 
-  same_along : AllByRecursion (IsKernelRow rows) set → (x : List ℤ) (steps : List Step) (y : List ℤ) → length x ≡ n → IsPath upper cost set x steps y → AllByRecursion (λ r. dot r y ≡ dot r x) rows
+  same_along : AllByRecursion (IsKernelRow rows) set → (x : List ℤ) (steps : List Step) (y : List ℤ) → length x ≡ n →
+      IsPath upper cost set x steps y → AllByRecursion (λ r. dot r y ≡ dot r x) rows
   same_along kernel x [] y l p = same_here rows x y p
   same_along kernel x (s ∷ steps) y l p =
       same_through rows x (after_step x s) y
@@ -145,7 +156,8 @@ is_climb p budget steps point h kernel path within stuck few =
         within = within;
         same = same;
         least = λ z w e.
-            stuck_is_optimal p.mat (rows_in p.set) p.upper.cells p.cost.cells point basis h.shapes.upper within stuck z w (same_back (rows_in p.mat) p.start.cells point z same e);
+            stuck_is_optimal p.mat (rows_in p.set) p.upper.cells p.cost.cells point basis h.shapes.upper within stuck z w
+            (same_back (rows_in p.mat) p.start.cells point z same e);
       };
     }
 
@@ -157,7 +169,8 @@ point_norm p point h within =
     omega (arith, norm_in_range point (within_small p.upper.cells point h.shapes.range within), point_long p point h within, h.few)
 
 -- one step more of a walk
-pub walk_more : (p : Problem) (old new : Path) (steps : List Step) (g : List ℤ) (n : ℕ) → IsProblem p → IsWalk p steps old → length g ≡ p.mat.cols → AllByRecursion InRange g → n ≤ 9223372036854775807 →
+pub walk_more : (p : Problem) (old new : Path) (steps : List Step) (g : List ℤ) (n : ℕ) → IsProblem p → IsWalk p steps old →
+    length g ≡ p.mat.cols → AllByRecursion InRange g → n ≤ 9223372036854775807 →
     IsFirstToHelp p.upper.cells p.cost.cells old.point.items (candidates (rows_in p.set)) g → IsGreatest p.upper.cells old.point.items g n →
     new.point.items ≡ add old.point.items (times n g) → new.cells.items ≡ old.cells.items ++ (pos n ∷ g) → new.count ≡ old.count + 1 → IsWalked p new
 walk_more p old new steps g n h w long range small first greatest point cells count =

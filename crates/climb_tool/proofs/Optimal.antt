@@ -102,7 +102,8 @@ cheap_term cost n (g ∷ terms) long h =
     elim (negative_or_not (dot cost g)) [
       | inl l ↦ (g, contains_head g terms, l)
       | inr p ↦
-          let sum : dot cost (add g (total n terms)) ≡ dot cost g +ℤ dot cost (total n terms) = dot-add cost g (total n terms) (long.0 ∙ sym (length-total n terms long.1)) in
+          let sum : dot cost (add g (total n terms)) ≡ dot cost g +ℤ dot cost (total n terms) =
+          dot-add cost g (total n terms) (long.0 ∙ sym (length-total n terms long.1)) in
           let r : (u : List ℤ) × Contains terms u × (dot cost u <ℤ pos 0) =
           cheap_term cost n terms long.1 (other_part (dot cost g) (dot cost (total n terms)) p (subst (λ (d : ℤ). d <ℤ pos 0) sum h)) in
           (r.0, contains_tail g terms r.0 r.1, r.2)
@@ -115,7 +116,8 @@ each_long n v (g ∷ terms) l h = (length-below g v h.0 ∙ l, each_long n v ter
 cheaper_difference : (p q : ℤ) → (p ≤ℤ q → ⊥) → (q -ℤ p) <ℤ pos 0
 cheaper_difference p q h = grind (arith, ints)
 
-module _ (n : ℕ) (rows set : List (List ℤ)) (half : IsHalf n rows set) (upper cost x : List ℤ) (bounds : length upper ≡ n) (feasible : IsWithinBounds upper x) (stuck : NoneHelps upper cost x (candidates set)) where
+module _ (n : ℕ) (rows set : List (List ℤ)) (half : IsHalf n rows set) (upper cost x : List ℤ) (bounds : length upper ≡ n)
+    (feasible : IsWithinBounds upper x) (stuck : NoneHelps upper cost x (candidates set)) where
   not_cheaper : (y : List ℤ) → IsWithinBounds upper y → AllByRecursion (λ r. dot r y ≡ dot r x) rows → (dot cost x ≤ℤ dot cost y → ⊥) → ⊥
   not_cheaper y within same cheaper =
       let long_x : length x ≡ n = sym (length_all_zip (λ u a. (pos 0 ≤ℤ a) × (a ≤ℤ u)) upper x feasible) ∙ bounds in
@@ -125,8 +127,10 @@ module _ (n : ℕ) (rows set : List (List ℤ)) (half : IsHalf n rows set) (uppe
       let long_v : length v ≡ n = length-difference x y even ∙ long_y in
       let d : (terms : List (List ℤ)) × IsDecomposition (IsKernelVector n rows) v terms =
       decompose (IsKernelVector n rows) (kernel_closed n rows) v (record { columns = long_v; kernel = kernel_between rows x y even same }) in
-      let cost_of_v : dot cost v <ℤ pos 0 = subst (λ (p : ℤ). p <ℤ pos 0) (sym (dot-subtract cost x y even)) (cheaper_difference (dot cost x) (dot cost y) cheaper) in
-      let cost_of_sum : dot cost (total n d.0) <ℤ pos 0 = subst (λ (w : List ℤ). dot cost w <ℤ pos 0) (sym (subst (λ (k : ℕ). total k d.0 ≡ v) long_v d.1.sum)) cost_of_v in
+      let cost_of_v : dot cost v <ℤ pos 0 =
+      subst (λ (p : ℤ). p <ℤ pos 0) (sym (dot-subtract cost x y even)) (cheaper_difference (dot cost x) (dot cost y) cheaper) in
+      let cost_of_sum : dot cost (total n d.0) <ℤ pos 0 =
+      subst (λ (w : List ℤ). dot cost w <ℤ pos 0) (sym (subst (λ (k : ℕ). total k d.0 ≡ v) long_v d.1.sum)) cost_of_v in
       let t : (g : List ℤ) × Contains d.0 g × (dot cost g <ℤ pos 0) = cheap_term cost n d.0 (each_long n v d.0 long_v d.1.below) cost_of_sum in
       let below : t.0 ⊑ v = each_contained (λ g. g ⊑ v) d.0 t.0 d.1.below t.1 in
       let minimal : IsMinimal (IsKernelVector n rows) t.0 = each_contained (IsMinimal (IsKernelVector n rows)) d.0 t.0 d.1.minimal t.1 in
@@ -145,7 +149,8 @@ module _ (n : ℕ) (rows set : List (List ℤ)) (half : IsHalf n rows set) (uppe
 
 pub stuck_is_optimal : (mat : Matrix) (set : List (List ℤ)) (upper cost x : List ℤ) → IsGraverBasis mat set → length upper ≡ mat.cols →
     IsWithinBounds upper x → NoneHelps upper cost x (candidates set) → IsOptimal (rows_in mat) upper cost x
-stuck_is_optimal mat set upper cost x basis bounds feasible stuck = optimal mat.cols (rows_in mat) set (basis_is_half mat set basis) upper cost x bounds feasible stuck
+stuck_is_optimal mat set upper cost x basis bounds feasible stuck =
+    optimal mat.cols (rows_in mat) set (basis_is_half mat set basis) upper cost x bounds feasible stuck
 
 -- ---- each step lowers the cost
 swap_product : (c : ℕ) (a x : ℤ) → a *ℤ (pos c *ℤ x) ≡ pos c *ℤ (a *ℤ x)
@@ -176,7 +181,8 @@ times_once (x ∷ g) = ap₂ (λ a v. a ∷ v) (once x) (times_once g) where
   once : (x : ℤ) → pos 1 *ℤ x ≡ x
   once x = grind (arith, ints)
 
-pub cost_falls : (upper cost x : List ℤ) (set : List (List ℤ)) (s : Step) → length s.by ≡ length x → IsStep upper cost set x s → dot cost (after_step x s) <ℤ dot cost x
+pub cost_falls : (upper cost x : List ℤ) (set : List (List ℤ)) (s : Step) → length s.by ≡ length x → IsStep upper cost set x s →
+    dot cost (after_step x s) <ℤ dot cost x
 cost_falls upper cost x set s long step =
     let one : 1 ≤ s.count = step.greatest.most 1 (subst (λ (g : List ℤ). IsWithinBounds upper (add x g)) (sym (times_once s.by)) step.first.helps.within) in
     let sum : dot cost (after_step x s) ≡ dot cost x +ℤ (pos s.count *ℤ dot cost s.by) =

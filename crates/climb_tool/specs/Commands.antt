@@ -1,6 +1,5 @@
 -- What the words of the command say: the project, and the most steps.
 use Rattle.std.specs.Prelude.{ℕ, ◌==◌, nat_le, if◌then◌else◌, List, [], ◌∷◌, drop, take, Option, None, Some, codes}
-use Rattle.std.specs.Option.{option_map}
 use Rattle.std.specs.Cmp.Lexicographic.{pointwise}
 use Rattle.outside.specs.Names.{is_name}
 use Rattle.mat_files.specs.Words.{digits_value}

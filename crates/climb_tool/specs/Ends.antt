@@ -23,7 +23,7 @@ use Rattle.climb_tool.specs.declared.ends.Stop.{Stop}
 use Rattle.climb_tool.specs.declared.ends.Stop.TheVariants.{Usage, File, Shape, CostRange, UpperRange, Infeasible, NotKernel, Steps, Outside, Memory}
 use Rattle.climb_tool.specs.declared.ends.Reached.{Reached}
 use Rattle.climb_tool.specs.declared.problems.Problem.{Problem}
-use Rattle.climb_tool.specs.Paths.{IsWithinBounds, Step, step_rows, IsPath, IsFalling, NoneHelps, IsFirstToHelp, candidates, IsOptimalFrom}
+use Rattle.climb_tool.specs.Paths.{Step, step_rows, IsPath, IsFalling, NoneHelps, IsFirstToHelp, candidates, IsOptimalFrom}
 use Rattle.climb_tool.specs.Endings.{ending}
 use Rattle.climb_tool.specs.Problems.{Plan, limits_of}
 
@@ -186,7 +186,8 @@ abbrev pub grid_files : Matrix → Matrix → List OutputFile
 grid_files opt steps = record { ending = codes ".opt"; text = text_of opt } ∷ record { ending = codes ".steps"; text = text_of steps } ∷ []
 
 abbrev pub both_written : List ℕ → Matrix → Matrix → Option Files → Option Files
-both_written project opt steps old = option_map (written (project ++ codes ".steps") (text_of steps)) (option_map (written (project ++ codes ".opt") (text_of opt)) old)
+both_written project opt steps old =
+    option_map (written (project ++ codes ".steps") (text_of steps)) (option_map (written (project ++ codes ".opt") (text_of opt)) old)
 
 -- the summary was put, or a prefix of it
 abbrev pub Told : Reached → Option (List ℕ) → Option (List ℕ) → Result Reached Stop → Type 0

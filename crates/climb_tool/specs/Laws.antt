@@ -8,7 +8,9 @@ use Rattle.climb_tool.specs.Paths.{IsWithinBounds, NoneHelps, candidates, Step, 
 
 -- each step lowers the cost
 abbrev pub CostFalls : Type 0
-CostFalls = (upper cost x : List ℤ) (set : List (List ℤ)) (s : Step) → length s.by ≡ length x → IsStep upper cost set x s → dot cost (after_step x s) <ℤ dot cost x
+CostFalls =
+    (upper cost x : List ℤ) (set : List (List ℤ)) (s : Step) → length s.by ≡ length x
+    → IsStep upper cost set x s → dot cost (after_step x s) <ℤ dot cost x
 
 -- where no vector of the Graver basis helps, nor its negative, the point is optimal
 abbrev pub StuckIsOptimal : Type 0

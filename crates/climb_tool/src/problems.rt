@@ -1,6 +1,7 @@
 //! A problem: the matrix, the set of vectors, the costs, the bounds and the start.
 ghost use Rattle.std.specs.Prelude.{◌≡◌, ◌≤◌, ◌*◌, length, map, nat_abs, OnOk};
-ghost use Rattle.climb_tool.specs.Problems.{has_columns, is_row, unless, shapes, is_large, is_negative, is_outside, outside_bounds, first_true, unless_column, numbers, accepted, HasShapes, IsProblem};
+ghost use Rattle.climb_tool.specs.Problems.{has_columns, is_row, unless, shapes, is_large, is_negative, is_outside, outside_bounds};
+ghost use Rattle.climb_tool.specs.Problems.{first_true, unless_column, numbers, accepted, HasShapes, IsProblem};
 ghost use Rattle.std.specs.List.{AllByRecursion};
 ghost use Rattle.int_vector.specs.Range.{InRange};
 ghost use Rattle.climb_tool.specs.Paths.{IsWithinBounds};

@@ -7,7 +7,8 @@ ghost use Rattle.outside.specs.Pieces.{MayPut};
 ghost use Rattle.tool_frame.specs.Outputs.{IsCut};
 ghost use Rattle.climb_tool.specs.Problems.{planned, IsProblem};
 ghost use Rattle.climb_tool.specs.Commands.{command_in, project_of};
-ghost use Rattle.climb_tool.specs.Ends.{code_of, end_of, stop_of, summary_of, grid_files, both_written, AreInKernel, Told, Published, Ends, EndsWith, Says, HasCause, HasCauses};
+ghost use Rattle.climb_tool.specs.Ends.{code_of, end_of, stop_of, summary_of, grid_files, both_written};
+ghost use Rattle.climb_tool.specs.Ends.{AreInKernel, Told, Published, Ends, EndsWith, Says, HasCause, HasCauses};
 ghost use Rattle.climb_tool.specs.Inside.Walks.{IsWalked, IsLaidOut};
 ghost use Rattle.climb_tool.specs.declared.ends.Stop.{Stop};
 ghost use Rattle.climb_tool.specs.declared.ends.Reached.{Reached};
@@ -102,7 +103,8 @@ fn publish<F: Folder, O: Sink>(
     out: &mut O,
 ) -> Result<Reached, Stop>
     ensures words { result ≡ Err Stop.Usage → ⊥ }
-    ensures published { Published project.now results.now.opt results.now.steps results.now.reached (F.held folder.old) (F.held folder.new) (O.held out.old) (O.held out.new) result }
+    ensures published { Published project.now results.now.opt results.now.steps results.now.reached
+        (F.held folder.old) (F.held folder.new) (O.held out.old) (O.held out.new) result }
     ensures cause { HasCauses (F.faults folder.old) (F.faults folder.new) (O.faults out.old) (O.faults out.new) result }
 {
     match write_both(alloc, project, &results.opt, &results.steps, folder) {

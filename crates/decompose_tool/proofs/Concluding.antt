@@ -14,7 +14,7 @@ use Rattle.mat_files.specs.Grids.{IsMatrix}
 use Rattle.mat_files.specs.Printed.{text_of}
 use Rattle.solution_files.specs.Outputs.{written, MayWrite, grid_of, text_of_rows}
 use Rattle.solution_files.specs.Steps.{AreRows}
-use Rattle.solution_files.proofs.TextLemmas.{text_of-rows}
+use Rattle.solution_files.proofs.GridText.{text_of-rows}
 use Rattle.system_files.specs.declared.systems.Shaped.{Shaped}
 use Rattle.tool_frame.specs.Outputs.{Traces, IsUntouched}
 use Rattle.decompose_tool.specs.declared.ends.Ending.{Ending}

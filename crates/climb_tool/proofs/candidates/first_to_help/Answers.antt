@@ -1,5 +1,5 @@
 -- The rows so far, and the one that is tried.
-use Rattle.std.proofs.Common.{◌≡◌, ◌<◌, ◌≤◌, ◌∙◌, ap, sym, subst, length, arith}
+use Rattle.std.proofs.Common.{◌<◌, ◌≤◌, subst, length, arith}
 use Rattle.std.specs.Prelude.{List, ℤ}
 use Rattle.std.proofs.lemmas.List.{take_all}
 use Rattle.system_files.specs.Kernel.{rows_in}
@@ -12,7 +12,8 @@ pub returns-in-Some-clause-first : goal.returns-in-Some-clause-first
 returns-in-Some-clause-first c =
     let p = c.args.problem.now in
     let l : c.loop-i.i < length (rows_in p.set) = omega (arith, c.row_count-i-end.ensures.count) in
-    first_of_all p.upper.cells p.cost.cells c.args.x.now (rows_in p.set) c.loop-i.i c.row-vector.result.now l c.row-vector.ensures.row c.loop-i.invariant (vector_of c.in-Some.candidate)
+    first_of_all p.upper.cells p.cost.cells c.args.x.now (rows_in p.set) c.loop-i.i c.row-vector.result.now l c.row-vector.ensures.row
+    c.loop-i.invariant (vector_of c.in-Some.candidate)
     (rw (c.cells-upper.ensures, c.cells-cost.ensures) at c.in-Some.ensures.first)
 
 pub loop-i-preserved : goal.loop-i-preserved

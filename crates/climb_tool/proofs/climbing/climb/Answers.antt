@@ -1,4 +1,5 @@
-use Rattle.std.proofs.Common.{◌≡◌, ◌∙◌, arith}
+-- No steps are left, and the path so far is a witness that one would help.
+use Rattle.std.proofs.Common.{arith}
 use Rattle.climb_tool.specs.Inside.Turns.{vector_of}
 use Rattle.climb_tool.proofs.climbing.climb.Goals as goal
 

@@ -1,7 +1,6 @@
 -- The walk with one step more.
 use Rattle.std.proofs.Common.{◌≡◌, ◌∙◌, refl, sym, length, ap, arith}
 use Rattle.std.specs.Prelude.{List, ℤ}
-use Rattle.std.specs.Vec.{with_items}
 use Rattle.std.proofs.lemmas.List.{with_items_is}
 use Rattle.std.proofs.lemmas.List.Elements.{recursion_from_All}
 use Rattle.int_vector.specs.Range.{InRange}

@@ -1,12 +1,13 @@
 -- Each entry is moved from where it was.
-use Rattle.std.proofs.Common.{◌≡◌, ◌<◌, ◌≤◌, ◌∙◌, ℕ, arith, rules, sym, ap, subst, length, get_or, pos, SFits, w64, to_z-of_z}
+use Rattle.std.proofs.Common.{◌≡◌, ◌<◌, ◌∙◌, ℕ, arith, rules, sym, ap, subst, length, get_or, pos, SFits, w64, to_z-of_z}
 use Rattle.std.specs.Prelude.{ℤ, ◌+ℤ◌, ◌*ℤ◌, ◌≤ℤ◌, List}
 use Rattle.std.proofs.lemmas.Int.{ints}
 use Rattle.std.proofs.lemmas.List.{length-set}
 use Rattle.int_vector.specs.Range.{InRange}
 use Rattle.climb_tool.specs.Paths.{times}
 use Rattle.climb_tool.specs.Inside.Turns.{turned_entry, vector_of}
-use Rattle.climb_tool.proofs.Entries.{Fits, length-turned, length-times, entry_times, entry_turned, entry_within, entry_of_sum, entry_same, within_length, range_at, moved_entry, moved_taken, moved_others, moved_all}
+use Rattle.climb_tool.proofs.Entries.{Fits, length-turned, length-times, entry_times, entry_turned, entry_within, entry_of_sum}
+use Rattle.climb_tool.proofs.Entries.{entry_same, within_length, range_at, moved_entry, moved_taken, moved_others, moved_all}
 use Rattle.climb_tool.proofs.points.advance.Goals as goal
 
 in_word : (u a : ℤ) → InRange u → (pos 0 ≤ℤ a) × (a ≤ℤ u) → (pos 0 ≤ℤ a) × (a ≤ℤ pos 9223372036854775807)
@@ -20,7 +21,8 @@ moved-requires-clause-before c =
     let i : ℕ = c.loop-i.i in
     let l : i < length upper = omega arith in
     let m : i < length x = omega (arith, l, c.loop-i.invariant.length) in
-    let same : get_or x i (pos 0) ≡ get_or start i (pos 0) = entry_same x start i (pos 0) c.loop-i.invariant.others m (omega (arith, l, within_length upper start c.requires.point)) in
+    let same : get_or x i (pos 0) ≡ get_or start i (pos 0) =
+    entry_same x start i (pos 0) c.loop-i.invariant.others m (omega (arith, l, within_length upper start c.requires.point)) in
     let fu : InRange (get_or upper i (pos 0)) = range_at upper i (pos 0) l c.requires.upper in
     let fx : SFits w64 (get_or x i (pos 0)) = search rules in
     simp to_z-of_z
@@ -38,7 +40,8 @@ moved-requires-clause-after c =
     let i : ℕ = c.loop-i.i in
     let l : i < length upper = omega arith in
     let m : i < length x = omega (arith, l, c.loop-i.invariant.length) in
-    let same : get_or x i (pos 0) ≡ get_or start i (pos 0) = entry_same x start i (pos 0) c.loop-i.invariant.others m (omega (arith, l, within_length upper start c.requires.point)) in
+    let same : get_or x i (pos 0) ≡ get_or start i (pos 0) =
+    entry_same x start i (pos 0) c.loop-i.invariant.others m (omega (arith, l, within_length upper start c.requires.point)) in
     let fu : InRange (get_or upper i (pos 0)) = range_at upper i (pos 0) l c.requires.upper in
     let fx : SFits w64 (get_or x i (pos 0)) = search rules in
     let fv : SFits w64 (get_or v i (pos 0)) = search rules in

@@ -1,5 +1,5 @@
 -- So many times at most, and what is left, decide.
-use Rattle.std.proofs.Common.{◌≡◌, ◌<◌, ◌≤◌, ◌∙◌, ℕ, arith, rules, sym, length, get_or, pos, min, SFits, w64, to_z-of_z}
+use Rattle.std.proofs.Common.{◌≡◌, ◌<◌, ◌≤◌, ◌∙◌, ℕ, arith, rules, sym, length, get_or, pos, SFits, w64, to_z-of_z}
 use Rattle.std.specs.Prelude.{ℤ, ◌↔◌, ◌*ℤ◌, List}
 use Rattle.climb_tool.specs.Inside.Turns.{turned_entry, vector_of}
 use Rattle.climb_tool.proofs.Entries.{Fits, length-turned, entry_turned, entry_within, greatest_step, greatest_end}
@@ -34,14 +34,17 @@ loop-i-preserved c =
     let is : s ≡ turned_entry c.args.candidate.negative (get_or v i (pos 0)) = simp to_z-of_z at c.turned_entry-step.ensures in
     let t : s ≡ get_or g i (pos 0) = is ∙ sym (entry_turned c.args.candidate.negative v i (pos 0) (omega (arith, l, c.requires.vector))) in
     let long : length g ≡ length upper = length-turned c.args.candidate.negative v ∙ c.requires.vector in
-    let r : (d : ℕ) → d ≤ 9223372036854775807 → Fits (get_or upper i (pos 0)) (get_or x i (pos 0)) (pos d *ℤ s) ↔ (d ≤ c.room.result) = simp to_z-of_z at c.room.ensures.room in
+    let r : (d : ℕ) → d ≤ 9223372036854775807 → Fits (get_or upper i (pos 0)) (get_or x i (pos 0)) (pos d *ℤ s) ↔ (d ≤ c.room.result) =
+    simp to_z-of_z at c.room.ensures.room in
     record {
       most = omega (arith, c.loop-i.invariant.most, c.min-most.ensures);
       decides = λ d small.
-          greatest_step upper x g i d c.loop-i.most c.room.result c.min-most.result s l c.requires.point long t c.min-most.ensures (r d small) (c.loop-i.invariant.decides d small);
+          greatest_step upper x g i d c.loop-i.most c.room.result c.min-most.result s l c.requires.point long t c.min-most.ensures (r d small)
+          (c.loop-i.invariant.decides d small);
     }
 
 pub returns-clause-greatest : goal.returns-clause-greatest
 returns-clause-greatest c =
     greatest_end c.args.upper.now c.args.x.now (vector_of c.args.candidate) c.loop-i.i c.loop-i.most (omega arith) c.requires.upper c.requires.point
-    (length-turned c.args.candidate.negative c.args.candidate.vector.now ∙ c.requires.vector) c.requires.nonzero c.loop-i.invariant.most c.loop-i.invariant.decides
+    (length-turned c.args.candidate.negative c.args.candidate.vector.now ∙ c.requires.vector) c.requires.nonzero c.loop-i.invariant.most
+    c.loop-i.invariant.decides

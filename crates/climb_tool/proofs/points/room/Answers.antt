@@ -1,3 +1,4 @@
+-- The quotient tells how often the entry can be moved, up or down.
 use Rattle.std.proofs.Common.{◌≡◌, arith, ap₂, ◌/◌, SFits, w64, to_z-of_z}
 use Rattle.std.specs.Prelude.{ℤ, pos, nat_abs, ◌-ℤ◌, ◌<ℤ◌}
 use Rattle.std.proofs.lemmas.Int.{ints}
@@ -28,4 +29,5 @@ returns-then-step-lt0-clause-room c = λ d small.
     let under : s <ℤ pos 0 = less_true s (pos 0) (simp to_z-of_z at c.if-step-lt0.true) in
     let e : c.unsigned_abs-then-step-lt0.result ≡ nat_abs a = simp to_z-of_z at c.unsigned_abs-then-step-lt0.ensures.value in
     let f : c.unsigned_abs-then-step-lt0-2.result ≡ nat_abs s = simp to_z-of_z at c.unsigned_abs-then-step-lt0-2.ensures.value in
-    room_down u a s (c.unsigned_abs-then-step-lt0.result / c.unsigned_abs-then-step-lt0-2.result) d c.requires.low c.requires.high under (ap₂ (λ m n. m / n) e f)
+    room_down u a s (c.unsigned_abs-then-step-lt0.result / c.unsigned_abs-then-step-lt0-2.result) d c.requires.low c.requires.high under
+    (ap₂ (λ m n. m / n) e f)

@@ -1,8 +1,6 @@
 -- The entry at a place decides, together with what is left.
 use Rattle.std.proofs.Common.{◌≡◌, ◌<◌, ◌≤◌, ◌∙◌, ℕ, arith, rules, refl, sym, length, get_or, pos, SFits, w64, to_z-of_z, Bool, true, false}
 use Rattle.std.specs.Prelude.{ℤ, IsTrue, ◌↔◌, List}
-use Rattle.int_vector.specs.Operations.{add}
-use Rattle.climb_tool.specs.Paths.{IsWithinBounds}
 use Rattle.climb_tool.specs.Inside.Turns.{turned_entry, vector_of}
 use Rattle.climb_tool.proofs.Entries.{Fits, length-turned, entry_turned, entry_within, within_end, within_length, fits_step, fits_not}
 use Rattle.climb_tool.proofs.points.stays_within.Goals as goal

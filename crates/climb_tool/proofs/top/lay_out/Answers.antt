@@ -1,5 +1,5 @@
 -- The matrices of the last point and of the steps are in range and of their shapes.
-use Rattle.std.proofs.Common.{◌≡◌, ◌+◌, ◌*◌, ◌≤◌, ◌∙◌, ap, sym, subst, length, arith, ℕ}
+use Rattle.std.proofs.Common.{◌+◌, ◌*◌, ◌≤◌, ◌∙◌, ap, sym, subst, arith}
 use Rattle.std.specs.Prelude.{List, ℤ}
 use Rattle.int_vector.specs.Vectors.{norm}
 use Rattle.climb_tool.proofs.Entries.{within_small}
