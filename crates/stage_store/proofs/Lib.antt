@@ -9,7 +9,8 @@ pub mod Merge
 pub mod Publish
 pub mod Merging
 pub mod Signs
-pub mod SignLines
+pub mod LineBits
+pub mod Levels
 pub mod Closing
 pub mod Used
 pub mod Front
@@ -18,7 +19,10 @@ pub mod UnitVectors
 pub mod Kept
 pub mod Starting
 pub mod Ordered
-pub mod Gains
-pub mod Skipped
 pub mod NumberedSums
 pub mod Sorting
+pub mod Sifting
+pub mod Tables
+pub mod Opening
+pub mod Reaches
+pub mod MoreRows

@@ -79,7 +79,7 @@ still (x ∷ waiting) e (suc n) h k =
     rw t (still waiting e n (λ z c. h z (contains_tail x (take n waiting) z c)) k)
 
 -- ---- the new class
-kept_row : (listed new : List (List ℤ)) (i : ℕ) → i < length listed → row_at (listed ++ new) i ≡ row_at listed i
+pub kept_row : (listed new : List (List ℤ)) (i : ℕ) → i < length listed → row_at (listed ++ new) i ≡ row_at listed i
 kept_row listed new i l = get_or_append_left listed new [] i l
 
 kept_rows : (listed new : List (List ℤ)) (n : ℕ) (ids : List ℕ) → AllByRecursion (IsPlace listed n) ids → rows_at (listed ++ new) ids ≡ rows_at listed ids
@@ -150,7 +150,7 @@ classes_append (b ∷ cs) c s h = (
   classes_append cs c s.1 (λ z d. h z (contains_tail b cs z d)),
 )
 
-each_snoc : {A : Type 0} (P : A → Type 0) (xs : List A) (y : A) → AllByRecursion P xs → P y → AllByRecursion P (xs ++ (y ∷ []))
+pub each_snoc : {A : Type 0} (P : A → Type 0) (xs : List A) (y : A) → AllByRecursion P xs → P y → AllByRecursion P (xs ++ (y ∷ []))
 each_snoc P [] y h p = (p, tt)
 each_snoc P (x ∷ xs) y h p = (h.0, each_snoc P xs y h.1 p)
 

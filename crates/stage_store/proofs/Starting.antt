@@ -22,7 +22,17 @@ use Rattle.lift_core.proofs.Orders.{before_pushed, from_map, map_ascending}
 use Rattle.row_pool.specs.Rows.{PoolValue}
 use Rattle.reduce_tree.specs.Tree.{TreeValue}
 use Rattle.stage_store.specs.Classes.{ClassValue, AreClasses}
-use Rattle.stage_store.specs.Stage.{StageValue, IsStage, IsStageRow, Holds, IsDefined, used_of}
+use Rattle.stage_store.specs.Stage.{StageValue, IsStage, IsStageRow, IsDefined, used_of}
+use Rattle.stage_store.specs.Fields.{Holds}
+use Rattle.stage_store.specs.Sieve.{IsNewSieve}
+use Rattle.stage_store.specs.Opened.{AscendWithin}
+use Rattle.stage_store.specs.declared.sieve.Sieve.{Sieve}
+use Rattle.std.specs.Prelude.{false}
+use Rattle.stage_store.specs.declared.opened.Opened.{Opened}
+use Rattle.stage_store.proofs.MoreRows.{unknown}
+use Rattle.stage_store.specs.declared.stage.Following.{Following}
+use Rattle.stage_store.specs.declared.stage.Counted.{Counted}
+use Rattle.stage_store.proofs.Sifting.{new_sieve}
 use Rattle.stage_store.specs.Lifted.{AreExtended, IsStart, StartsAt, StartsOr, IsFirst, IsLift, IsLiftedDefined}
 use Rattle.stage_store.specs.declared.stage.Lifted.{Lifted}
 use Rattle.stage_store.specs.declared.stage.Lifted.TheVariants.{Next, Last}
@@ -76,12 +86,12 @@ module _ (S : ToolSystem) (k : ℕ) (solutions : List (List ℤ)) (solve : AllBy
     waiting_length = omega (arith, length-map solutions (extend (row S.equations k)), count);
   }
 
-pub start_holds : (S : ToolSystem) (k used : ℕ) (solutions : List (List ℤ)) (listed : PoolValue) (tree : TreeValue) (waiting : PoolValue) (plus minus : List ClassValue)
+pub start_holds : (S : ToolSystem) (k used : ℕ) (solutions : List (List ℤ)) (listed : PoolValue) (tree : TreeValue) (waiting : PoolValue) (plus minus : List ClassValue) (sieve : Sieve) (following : Following) (counted : Counted) (ahead : Opened)
     → AllByRecursion (Solves S.equations (k - 1)) solutions → AllByRecursion (λ v. 0 < norm v) solutions → AllByRecursion (λ v. norm v ≤ largest) solutions
     → IsToolSystem S → 0 < k → k ≤ length S.equations.rows → used ≤ 2 ^ 62 + k * 2 ^ 42 → IsStrictlySortedBy solution_cmp solutions → length solutions ≤ 2 ^ 21
-    → listed.width ≡ width S.equations + 1 → listed.rows ≡ [] → tree.width ≡ width S.equations + 1 → tree.filed ≡ [] → AreExtended S k solutions waiting → plus ≡ [] → minus ≡ []
-    → Holds (value_of S k 0 used listed.rows waiting.rows) listed tree waiting 0 used plus minus
-start_holds S k used solutions listed tree waiting plus minus solve positive small kept from to most order count w nothing tw none e p m =
+    → listed.width ≡ width S.equations + 1 → listed.rows ≡ [] → tree.width ≡ width S.equations + 1 → tree.filed ≡ [] → AreExtended S k solutions waiting → plus ≡ [] → minus ≡ [] → IsNewSieve sieve → following.known ≡ false → counted.known ≡ false → ahead.known ≡ false
+    → Holds (value_of S k 0 used listed.rows waiting.rows) listed tree waiting 0 used plus minus sieve following counted ahead
+start_holds S k used solutions listed tree waiting plus minus sieve following counted ahead solve positive small kept from to most order count w nothing tw none e p m v f o a =
     let is : value_of S k 0 used [] (map (extend (row S.equations k)) solutions) ≡ value_of S k 0 used listed.rows waiting.rows = ap₂ (λ (l r : List (List ℤ)). value_of S k 0 used l r) (sym nothing) (sym e.rows_are) in
     record {
       stage = subst (λ (v : StageValue). IsStage v) is (start_is_stage S k solutions solve positive small used kept from to most order count);
@@ -93,6 +103,12 @@ start_holds S k used solutions listed tree waiting plus minus solve positive sma
       used_is = omega (arith, ap used_of is);
       plus_classes = subst₂ (λ (l : List (List ℤ)) (cs : List ClassValue). AreClasses l has_positive_last cs) (sym nothing) (sym p) (no_classes has_positive_last);
       minus_classes = subst₂ (λ (l : List (List ℤ)) (cs : List ClassValue). AreClasses l has_negative_last cs) (sym nothing) (sym m) (no_classes has_negative_last);
+      plus_ids = subst AscendWithin (sym p) tt;
+      minus_ids = subst AscendWithin (sym m) tt;
+      sieve_is = new_sieve S.equations listed.rows 0 sieve v;
+      following_is = λ t. absurd (unknown following.known f t);
+      counted_is = λ t. absurd (unknown counted.known o t);
+      ahead_is = λ t. absurd (unknown ahead.known a t);
     }
 
 -- ---- the defined lists

@@ -1,6 +1,5 @@
 -- The sums of pairs that are found on the way through the pairs of a norm.
-use Rattle.std.specs.Prelude.{◌≡◌, ℕ, ◌+◌, ◌<◌, ◌≤◌, ◌⊎◌, ◌↔◌, List, ℤ, length, slice_index_or}
-use Rattle.std.specs.Int.{bit_at}
+use Rattle.std.specs.Prelude.{◌≡◌, ℕ, ◌+◌, ◌<◌, ◌≤◌, ◌⊎◌, ◌↔◌, List, ℤ, length}
 use Rattle.std.specs.List.{AllByRecursion, Contains}
 use Rattle.std.specs.List.Sorted.{IsStrictlySortedBy}
 use Rattle.std.specs.declared.cmp.Ordering.TheVariants.{Less}
@@ -56,10 +55,6 @@ pub record IsPairPlace (listed : List (List ℤ)) (places : ℕ × ℕ) : Type 0
 pub record GainsSums (S : LinearSystem) (listed : List (List ℤ)) (ids : List (ℕ × ℕ)) (old new : FoundValue) : Type 0 where
   pub width_is : new.width ≡ old.width
   pub gains : (z : List ℤ) → Contains new.rows z ↔ (Contains old.rows z ⊎ IsSumAmong S listed ids z)
-
--- where its bit is set, the pair of row i and the k-th of the second rows has no sum
-abbrev pub HaveNoSums : LinearSystem → List (List ℤ) → ℕ → List ℕ → ℕ → Type 0
-HaveNoSums S listed i seconds bits = (k : ℕ) → k < length seconds → bit_at bits k ≡ 1 → HasSum S (row_at listed i) (row_at listed (slice_index_or seconds k 0)) → ⊥
 
 abbrev pub place_pair : ℕ → ℕ → ℕ × ℕ
 place_pair i j = (i, j)

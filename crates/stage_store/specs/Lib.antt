@@ -7,7 +7,6 @@ pub use Rattle.row_pool.specs.Rows
 pub use Rattle.reduce_tree.specs.Tree
 pub mod Indexed
 pub mod Classes
-pub mod Clashes
 pub mod Signs
 pub mod Least
 pub mod Stage
@@ -20,3 +19,9 @@ pub mod Published
 pub mod Found
 pub mod Numbered
 pub mod Sorting
+pub mod Reaches
+pub mod Lines
+pub mod Levels
+pub mod Sieve
+pub mod Opened
+pub mod Fields

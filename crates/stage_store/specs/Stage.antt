@@ -4,12 +4,8 @@ use Rattle.std.specs.List.{AllByRecursion}
 use Rattle.std.specs.List.Sorted.{IsStrictlySortedBy}
 use Rattle.lift_core.specs.Systems.{LinearSystem, ToolSystem}
 use Rattle.lift_core.specs.ToolSystems.{IsToolSystem, width}
-use Rattle.lift_core.specs.Stages.{IsStageVector, stage_norm, norm_cmp, IsListed, IsWaiting, pairs_within, has_positive_last, has_negative_last, AreUsed}
+use Rattle.lift_core.specs.Stages.{IsStageVector, stage_norm, norm_cmp, IsListed, IsWaiting, pairs_within, AreUsed}
 use Rattle.int_vector.specs.Vectors.{largest}
-use Rattle.row_pool.specs.Rows.{PoolValue}
-use Rattle.reduce_tree.specs.Tree.{TreeValue}
-use Rattle.stage_store.specs.Classes.{ClassValue, AreClasses}
-use Rattle.stage_store.specs.Indexed.{HoldsRows}
 
 pub record StageValue : Type 0 where
   pub system : ToolSystem
@@ -45,18 +41,6 @@ pub record IsStage (s : StageValue) : Type 0 where
   pub waiting_norms : AllByRecursion (λ z. s.norm < stage_norm z) s.waiting
   pub listed_length : length s.listed ≤ 2 ^ 21
   pub waiting_length : length s.waiting ≤ 2 ^ 21
-
--- what the fields keep: the rows that wait are those from the place `waited` on
-pub record Holds (s : StageValue) (listed : PoolValue) (tree : TreeValue) (waiting : PoolValue) (waited used : ℕ) (plus minus : List ClassValue) : Type 0 where
-  pub stage : IsStage s
-  pub listed_width : listed.width ≡ width s.system.equations + 1
-  pub indexed : HoldsRows tree listed
-  pub waiting_width : waiting.width ≡ width s.system.equations + 1
-  pub waited_inside : waited ≤ length waiting.rows
-  pub waiting_most : length waiting.rows ≤ 2 ^ 21
-  pub used_is : used ≡ used_of s
-  pub plus_classes : AreClasses s.listed has_positive_last plus
-  pub minus_classes : AreClasses s.listed has_negative_last minus
 
 -- the lists and the used pairs are the defined ones
 pub record IsDefined (s : StageValue) : Type 0 where

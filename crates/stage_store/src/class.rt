@@ -66,17 +66,80 @@ pub fn place_from(classes: &[Class], n: u64) -> usize
     low
 }
 
-/// The places of the rows of norm n.
-pub fn ids_of_norm(classes: &[Class], n: u64) -> &[u32]
+/// The same, looked for from a place on: back, and then onward.
+fn place_near(classes: &[Class], n: u64, near: usize) -> usize
     requires { IsStrictlySortedBy class_cmp classes.now }
+    ensures within { result ≤ length classes.now }
+    ensures before { (k : ℕ) → k < result → norm_at classes.now k < n }
+    ensures from { (k : ℕ) → result ≤ k → k < length classes.now → n ≤ norm_at classes.now k }
+{
+    let mut place = place_below(classes, n, near.min(classes.len()));
+    while place < classes.len() && classes[place].norm() < n {
+        place += 1;
+    }
+    place
+}
+
+/// A place before which all norms are below n, at or before another.
+fn place_below(classes: &[Class], n: u64, from: usize) -> usize
+    requires sorted { IsStrictlySortedBy class_cmp classes.now }
+    requires within { from ≤ length classes.now }
+    ensures within { result ≤ length classes.now }
+    ensures before { (k : ℕ) → k < result → norm_at classes.now k < n }
+{
+    let mut place = from;
+    while place > 0 && classes[place - 1].norm() >= n {
+        place -= 1;
+    }
+    place
+}
+
+/// The first place of a norm that is not below n, where `count` of them are looked for one after another, and the last
+/// one was at `near`.
+fn place_next(classes: &[Class], n: u64, near: usize, count: usize) -> usize
+    requires { IsStrictlySortedBy class_cmp classes.now }
+    ensures within { result ≤ length classes.now }
+    ensures before { (k : ℕ) → k < result → norm_at classes.now k < n }
+    ensures from { (k : ℕ) → result ≤ k → k < length classes.now → n ≤ norm_at classes.now k }
+{
+    // A step takes less time than a search, but there may be many of them.
+    if classes.len() / 16 < count {
+        place_near(classes, n, near)
+    } else {
+        place_from(classes, n)
+    }
+}
+
+/// The places of the rows of norm n, where the first place of a norm that is not below it is known.
+fn ids_from(classes: &[Class], n: u64, place: usize) -> &[u32]
+    requires sorted { IsStrictlySortedBy class_cmp classes.now }
+    requires within { place ≤ length classes.now }
+    requires before { (k : ℕ) → k < place → norm_at classes.now k < n }
+    requires from { (k : ℕ) → place ≤ k → k < length classes.now → n ≤ norm_at classes.now k }
     ensures { result.now ≡ ids_at classes.now n }
 {
-    let place = place_from(classes, n);
     if place < classes.len() && classes[place].norm() == n {
         classes[place].ids()
     } else {
         &[]
     }
+}
+
+/// The places of the rows of norm n.
+pub fn ids_of_norm(classes: &[Class], n: u64) -> &[u32]
+    requires { IsStrictlySortedBy class_cmp classes.now }
+    ensures { result.now ≡ ids_at classes.now n }
+{
+    ids_from(classes, n, place_from(classes, n))
+}
+
+/// The number of rows of norm n, where `count` norms are looked for one after another: `near` keeps the place.
+pub fn size_near(classes: &[Class], n: u64, near: &mut usize, count: usize) -> u64
+    requires { IsStrictlySortedBy class_cmp classes.now }
+    ensures { result ≡ length (ids_at classes.now n) }
+{
+    *near = place_next(classes, n, *near, count);
+    ids_from(classes, n, *near).len() as u64
 }
 
 /// The number of pairs of norm e.
@@ -86,8 +149,10 @@ pub fn count_pairs(plus: &[Class], minus: &[Class], e: u64) -> u64
     ensures { result ≡ sum_by (λ c. part_size minus.now e c) plus.now }
 {
     let mut total: u64 = 0;
+    let mut place = minus.len();
     for c in plus {
-        total += c.ids().len() as u64 * ids_of_norm(minus, e.saturating_sub(c.norm())).len() as u64;
+        total += c.ids().len() as u64
+            * size_near(minus, e.saturating_sub(c.norm()), &mut place, plus.len());
     }
     total
 }
@@ -124,13 +189,14 @@ pub fn lesser(x: Option<u64>, y: Option<u64>) -> Option<u64>
     }
 }
 
-/// The least norm above d.
-pub fn norm_above(classes: &[Class], d: u64) -> Option<u64>
+/// The least norm above d, where `count` of them are looked for one after another: `near` keeps the place.
+fn norm_above(classes: &[Class], d: u64, near: &mut usize, count: usize) -> Option<u64>
     requires sorted { IsStrictlySortedBy class_cmp classes.now }
     requires small { d < 2 ^ 63 }
     ensures { IsLeastAbove (HasNorm classes.now) d result }
 {
-    let place = place_from(classes, d + 1);
+    let place = place_next(classes, d + 1, *near, count);
+    *near = place;
     if place < classes.len() {
         Some(classes[place].norm())
     } else {
@@ -147,8 +213,9 @@ pub fn pair_norm_above(plus: &[Class], minus: &[Class], d: u64) -> Option<u64>
     ensures { IsLeastAbove (HasPairNorm plus.now minus.now (length plus.now)) d result }
 {
     let mut least = None;
+    let mut place = minus.len();
     for c in plus {
-        match norm_above(minus, d - c.norm()) {
+        match norm_above(minus, d - c.norm(), &mut place, plus.len()) {
             Some(m) => least = lesser(least, Some(c.norm() + m)),
             None => {}
         }

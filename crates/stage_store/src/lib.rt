@@ -1,14 +1,17 @@
 //! One stage of the lifting: its rows in order of norm, the classes that its pairs are found by, and the rows that wait.
 #![tactic(auto)]
 
-mod clashes;
 mod class;
-mod gathering;
 mod growing;
 pub mod laws;
 mod lifting;
+mod lines;
+mod marks;
 mod numbered;
+mod opened;
 mod order;
+mod reach;
+mod sieve;
 mod stage;
 
 pub use numbered::Hints;

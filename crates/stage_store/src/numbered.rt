@@ -1,23 +1,36 @@
 //! The irreducible sums of numbered pairs, and what a worker remembers on the way.
 
-ghost use Rattle.std.specs.Prelude.{◌≡◌, ◌≤◌, ◌<◌, ◌+◌, length};
+ghost use Rattle.std.specs.Prelude.{◌≡◌, ◌⊎◌, ◌≤◌, ◌<◌, ◌+◌, ◌^◌, ℕ, [], length, slice_index_or, IfSome, IfOk, OnOk, IsTrue};
+ghost use Rattle.std.specs.List.{Contains};
+ghost use Rattle.std.specs.List.Sorted.{IsNonDecreasingBy};
 ghost use Rattle.lift_core.specs.ToolSystems.{width};
-ghost use Rattle.stage_store.specs.Classes.{pairs_of};
-ghost use Rattle.stage_store.specs.Numbered.{GainsNumbered};
+ghost use Rattle.stage_store.specs.Classes.{pairs_of, IsPairAt};
+ghost use Rattle.stage_store.specs.Found.{IsReduced};
+ghost use Rattle.stage_store.specs.Numbered.{GainsNumbered, HasNoneBetween};
+ghost use Rattle.stage_store.specs.Opened.{IsOpen, open_number};
 
+use crate::opened::{OpenPair, Opened};
 use crate::stage::Stage;
-use int_vector::Visits;
-use row_pool::Pool;
+use int_vector::{Visits, below, same};
+use row_pool::{Pool, RowId};
 use std::alloc::{AllocError, Global};
 
+/// How many pairs are gathered at a time.
+const BLOCK: u64 = 256;
+
 /// How many reducers are remembered.
-const REDUCERS: usize = 64;
+const REDUCERS: usize = 16;
+
+/// How many places of sums that were found are remembered.
+const FOUND: usize = 4096;
 
 /// What a worker remembers from one range of pairs to the next: the places of the listed rows that the last reducible
 /// sums were above, the likeliest first. No clause rests on it.
 #[derive(Drop)]
 pub struct Hints {
     reducers: Vec<u32>,
+    /// Where sums were put among the rows that were found, by a hash of the sum.
+    found: Vec<u32>,
 }
 
 impl Hints {
@@ -25,12 +38,123 @@ impl Hints {
     pub fn new(alloc: Global) -> Result<Hints, AllocError> {
         Ok(Hints {
             reducers: vec![in alloc; 0; REDUCERS]?,
+            found: vec![in alloc; 0; FOUND]?,
         })
+    }
+
+    /// Whether a row that is known as a reducer is below a sum. It comes nearer to the front.
+    fn is_reduced(&mut self, stage: &Stage, sum: &[i64]) -> bool
+        requires { length sum.now ≡ width stage.now.system.equations + 1 }
+        ensures { IsTrue result → IsReduced stage.now.listed sum.now }
+    {
+        match place_below(&self.reducers, stage, sum) {
+            Some(k) => {
+                self.reducers.swap(k.saturating_sub(1), k);
+                true
+            }
+            None => false,
+        }
+    }
+
+    /// Whether a sum is known to be among the rows.
+    fn is_found(&self, slot: usize, rows: &Pool, sum: &[i64]) -> bool
+        ensures { IsTrue result → Contains rows.now.rows sum.now }
+    {
+        match self.found.get(slot) {
+            Some(place) => stands_at(rows, *place, sum),
+            None => false,
+        }
+    }
+
+    /// Keeps the place of a sum in mind.
+    fn note_found(&mut self, slot: usize, id: RowId) {
+        if let Some(place) = self.found.get_mut(slot) {
+            *place = id.0;
+        }
+    }
+
+    /// Keeps a reducer in mind, in place of the unlikeliest.
+    fn remember(&mut self, id: RowId) {
+        if let Some(place) = self.reducers.last_mut() {
+            *place = id.0;
+        }
     }
 }
 
+/// Whether the row at a place, if there is one, is this one.
+fn stands_at(rows: &Pool, place: u32, sum: &[i64]) -> bool
+    ensures { IsTrue result → Contains rows.now.rows sum.now }
+{
+    place < rows.len() && same(rows.row(RowId(place)), sum)
+}
+
+/// Where the place of a sum is remembered, by a hash.
+fn slot_of(sum: &[i64]) -> usize {
+    let mut hash: u64 = 0;
+    for entry in sum {
+        hash = (hash ^ entry.unsigned_abs()).wrapping_mul(0x9E37_79B9_7F4A_7C15);
+        hash ^= hash >> 29;
+    }
+    (hash % 4096) as usize
+}
+
+/// Which of some places has a listed row that is below a sum.
+fn place_below(places: &[u32], stage: &Stage, sum: &[i64]) -> Option<usize>
+    requires { length sum.now ≡ width stage.now.system.equations + 1 }
+    ensures inside { IfSome result (λ k. k < length places.now) }
+    ensures reduced { IfSome result (λ _. IsReduced stage.now.listed sum.now) }
+{
+    for k in 0..places.len() {
+        if places[k] < stage.len() && below(stage.row(RowId(places[k])), sum) {
+            return Some(k);
+        }
+    }
+    None
+}
+
+/// Takes in the sum of the pair with a number, where it has one that is irreducible. The pair is that of two places.
+fn take_places(
+    stage: &Stage,
+    norm: u64,
+    p: u64,
+    f: RowId,
+    g: RowId,
+    hints: &mut Hints,
+    sum: &mut [i64],
+    rows: &mut Pool,
+)
+    requires small { norm ≤ 9223372036854775807 }
+    requires inside { p < length (pairs_of stage.now.listed norm) }
+    requires at { IsPairAt stage.now.listed norm p f.0 g.0 }
+    requires sum { length sum.old ≡ width stage.now.system.equations + 1 }
+    requires width { rows.old.width ≡ width stage.now.system.equations + 1 }
+    requires room { 1 ≤ rows.old.spare }
+    ensures sum { length sum.new ≡ length sum.old }
+    ensures width { rows.new.width ≡ rows.old.width }
+    ensures kept { length rows.old.rows ≤ length rows.new.rows }
+    ensures spare { rows.old.spare ≤ rows.new.spare + 1 }
+    ensures gains { GainsNumbered stage.now norm p (p + 1) rows.old.rows rows.new.rows }
+{
+    if !stage.sum_into(f, g, sum) {
+        return;
+    }
+    let slot = slot_of(sum);
+    if hints.is_found(slot, rows, sum) {
+        return;
+    }
+    if hints.is_reduced(stage, sum) {
+        return;
+    }
+    if let Some(id) = stage.find_below(sum, &mut Visits { count: 0 }) {
+        hints.remember(id);
+        return;
+    }
+    let place = rows.push(sum);
+    hints.note_found(slot, place);
+}
+
 /// Takes in the sum of the pair with a number, where it has one that is irreducible.
-pub fn take_pair(stage: &Stage, norm: u64, p: u64, sum: &mut [i64], rows: &mut Pool)
+fn take_pair(stage: &Stage, norm: u64, p: u64, hints: &mut Hints, sum: &mut [i64], rows: &mut Pool)
     requires small { norm ≤ 9223372036854775807 }
     requires inside { p < length (pairs_of stage.now.listed norm) }
     requires sum { length sum.old ≡ width stage.now.system.equations + 1 }
@@ -43,13 +167,101 @@ pub fn take_pair(stage: &Stage, norm: u64, p: u64, sum: &mut [i64], rows: &mut P
     ensures gains { GainsNumbered stage.now norm p (p + 1) rows.old.rows rows.new.rows }
 {
     let (f, g) = stage.pair(norm, p);
-    if !stage.sum_into(f, g, sum) {
-        return;
+    take_places(stage, norm, p, f, g, hints, sum, rows);
+}
+
+/// Takes in the sum of an open pair, unless that of its number was taken in. Answers the number up to which all are.
+fn take_open(
+    stage: &Stage,
+    norm: u64,
+    pair: OpenPair,
+    done: u64,
+    hints: &mut Hints,
+    sum: &mut [i64],
+    rows: &mut Pool,
+) -> u64
+    requires small { norm ≤ 9223372036854775807 }
+    requires inside { pair.number < length (pairs_of stage.now.listed norm) }
+    requires few { length (pairs_of stage.now.listed norm) ≤ 2 ^ 42 }
+    requires at { IsPairAt stage.now.listed norm pair.number pair.first pair.second }
+    requires none { HasNoneBetween stage.now norm done pair.number }
+    requires sum { length sum.old ≡ width stage.now.system.equations + 1 }
+    requires width { rows.old.width ≡ width stage.now.system.equations + 1 }
+    requires room { done ≤ pair.number → 1 ≤ rows.old.spare }
+    ensures from { done ≤ result }
+    ensures behind { pair.number < result }
+    ensures to { (result ≡ done) ⊎ (result ≡ pair.number + 1) }
+    ensures sum { length sum.new ≡ length sum.old }
+    ensures width { rows.new.width ≡ rows.old.width }
+    ensures kept { length rows.old.rows ≤ length rows.new.rows }
+    ensures spare { rows.old.spare + done ≤ rows.new.spare + result }
+    ensures gains { GainsNumbered stage.now norm done result rows.old.rows rows.new.rows }
+{
+    if pair.number < done {
+        return done;
     }
-    if let Some(_id) = stage.find_below(sum, &mut Visits { count: 0 }) {
-        return;
+    take_places(
+        stage,
+        norm,
+        pair.number,
+        RowId(pair.first),
+        RowId(pair.second),
+        hints,
+        sum,
+        rows,
+    );
+    pair.number + 1
+}
+
+/// A place before which all open pairs have numbers below `first`.
+fn open_from(pairs: &[OpenPair], first: u64) -> usize
+    requires { IsNonDecreasingBy open_number pairs.now }
+    ensures within { result ≤ length pairs.now }
+    ensures before { (k : ℕ) (d : OpenPair) → k < result → open_number (slice_index_or pairs.now k d) < first }
+{
+    let mut low = 0;
+    let mut high = pairs.len();
+    while low < high {
+        let middle = low + (high - low) / 2;
+        if pairs[middle].number < first {
+            low = middle + 1;
+        } else {
+            high = middle;
+        }
     }
-    rows.push(sum);
+    low
+}
+
+/// Takes in the sums of the open pairs with the numbers from `first` on, `count` of them.
+pub fn take_opened(
+    stage: &Stage,
+    opened: &Opened,
+    first: u64,
+    count: u64,
+    hints: &mut Hints,
+    sum: &mut [i64],
+    rows: &mut Pool,
+)
+    requires small { opened.now.norm ≤ 9223372036854775807 }
+    requires opens { IsOpen stage.now opened.now.norm opened.now.pairs.items }
+    requires inside { first + count ≤ length (pairs_of stage.now.listed opened.now.norm) }
+    requires few { length (pairs_of stage.now.listed opened.now.norm) ≤ 2 ^ 42 }
+    requires sum { length sum.old ≡ width stage.now.system.equations + 1 }
+    requires width { rows.old.width ≡ width stage.now.system.equations + 1 }
+    requires room { count ≤ rows.old.spare }
+    ensures sum { length sum.new ≡ length sum.old }
+    ensures width { rows.new.width ≡ rows.old.width }
+    ensures kept { length rows.old.rows ≤ length rows.new.rows }
+    ensures gains { GainsNumbered stage.now opened.now.norm first (first + count) rows.old.rows rows.new.rows }
+{
+    let pairs = &opened.pairs;
+    let to = first + count;
+    let mut done = first;
+    let mut k = open_from(pairs, first);
+    while k < pairs.len() && pairs[k].number < to {
+        done = take_open(stage, opened.norm, pairs[k], done, hints, sum, rows);
+        k += 1;
+    }
 }
 
 /// Takes in the sums of the pairs with the numbers from `first` on, `count` of them.
@@ -58,6 +270,7 @@ pub fn take_range(
     norm: u64,
     first: u64,
     count: u64,
+    hints: &mut Hints,
     sum: &mut [i64],
     rows: &mut Pool,
 )
@@ -74,6 +287,39 @@ pub fn take_range(
     // So the numbers are known to be in range.
     let _pairs = stage.pairs_at(norm);
     for k in 0..count {
-        take_pair(stage, norm, first + k, sum, rows);
+        take_pair(stage, norm, first + k, hints, sum, rows);
+    }
+}
+
+/// The irreducible sums of all pairs of a norm, in no order; some may come more than once.
+pub fn gather_all(alloc: Global, stage: &Stage, norm: u64, pairs: u64) -> Result<Pool, AllocError>
+    requires small { norm ≤ 9223372036854775807 }
+    requires pairs { pairs ≡ length (pairs_of stage.now.listed norm) }
+    ensures width { IfOk result (λ rows. rows.width ≡ width stage.now.system.equations + 1) }
+    ensures gains { IfOk result (λ rows. GainsNumbered stage.now norm 0 pairs [] rows.rows) }
+{
+    stage.keeps();
+    let width = stage.system().width() + 1;
+    let mut hints = Hints::new(alloc)?;
+    let mut sum: Vec<i64> = vec![in alloc; 0; width as usize]?;
+    let mut rows = Pool::new(alloc, width);
+    let mut first = 0;
+    while first < pairs {
+        let count = BLOCK.min(pairs - first);
+        make_room(&mut rows, count as u32)?;
+        stage.gather(norm, first, count, &mut hints, &mut sum, &mut rows);
+        first += count;
+    }
+    Ok(rows)
+}
+
+/// Makes room for `count` rows more.
+fn make_room(rows: &mut Pool, count: u32) -> Result<(), AllocError>
+    ensures same { (rows.new.width ≡ rows.old.width) × (rows.new.rows ≡ rows.old.rows) }
+    ensures room { OnOk result (count ≤ rows.new.spare) }
+{
+    match rows.len().checked_add(count) {
+        Some(_) => rows.reserve(count),
+        None => Err(AllocError),
     }
 }

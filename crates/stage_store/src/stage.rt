@@ -22,10 +22,12 @@ ghost use Rattle.stage_store.specs.Lifted.{StartsOr, IsFirst, IsLift, IsLiftedDe
 ghost use Rattle.stage_store.specs.Published.{IsClosedNorm, IsPublish, IsFurther, GrowsOr};
 
 use crate::class::{Class, count_pairs, find_pair, lesser, pair_norm_above};
-use crate::gathering::{Found, take_norm};
 use crate::growing::{add_class, class_of, list_rows, make_room, merged_rows, waits_up_to};
 use crate::lifting::{extended, kept_solutions, units};
-use crate::numbered::{Hints, take_range};
+use crate::numbered::{Hints, gather_all, take_opened, take_range};
+use crate::opened::{Opened, open_norm};
+use crate::order::in_order;
+use crate::sieve::Sieve;
 use int_vector::{Visits, add_into, conformal, norm};
 use lift_core::{IntRow, System};
 use reduce_tree::Tree;
@@ -113,6 +115,21 @@ struct Growth {
     pairs: u64,
 }
 
+/// The next norm, once it is known.
+#[derive(Clone, Copy, Drop)]
+struct Following {
+    known: bool,
+    next: Option<Next>,
+}
+
+/// The number of pairs of a norm, once it is known.
+#[derive(Clone, Copy, Drop)]
+struct Counted {
+    known: bool,
+    norm: u64,
+    pairs: u64,
+}
+
 /// A stage of the lifting at a norm.
 #[derive(Drop)]
 pub struct Stage {
@@ -128,17 +145,22 @@ pub struct Stage {
     waited: u32,
     plus: Vec<Class>,
     minus: Vec<Class>,
+    sieve: Sieve,
+    following: Following,
+    counted: Counted,
+    ahead: Opened,
 }
 
 impl Model for Stage {
     ghost use Rattle.std.specs.Prelude.{drop};
-    ghost use Rattle.stage_store.specs.Stage.{StageValue, Holds};
+    ghost use Rattle.stage_store.specs.Stage.{StageValue};
+    ghost use Rattle.stage_store.specs.Fields.{Holds};
 
     ghost Value = { StageValue };
 
     ghost view = { λ s. record { system = s.system; number = s.number; norm = s.norm; before = s.before; listed = s.listed.rows; waiting = drop s.waited s.waiting.rows } };
 
-    ghost invariant = { λ s. Holds (record { system = s.system; number = s.number; norm = s.norm; before = s.before; listed = s.listed.rows; waiting = drop s.waited s.waiting.rows }) s.listed s.tree s.waiting s.waited s.used s.plus.items s.minus.items };
+    ghost invariant = { λ s. Holds (record { system = s.system; number = s.number; norm = s.norm; before = s.before; listed = s.listed.rows; waiting = drop s.waited s.waiting.rows }) s.listed s.tree s.waiting s.waited s.used s.plus.items s.minus.items s.sieve s.following s.counted s.ahead };
 }
 
 impl Stage {
@@ -186,7 +208,7 @@ impl Stage {
         let waiting = extended(alloc, &system, number, &solutions)?;
         let listed = Pool::new(alloc, system.width() + 1);
         let tree = Tree::new(alloc, system.width() + 1);
-        Ok(Lifted::Next(Stage {
+        let mut stage = Stage {
             alloc,
             system,
             number,
@@ -199,7 +221,24 @@ impl Stage {
             waited: 0,
             plus: Vec::new(alloc),
             minus: Vec::new(alloc),
-        }))
+            sieve: Sieve::new(alloc)?,
+            following: Following {
+                known: false,
+                next: None,
+            },
+            counted: Counted {
+                known: false,
+                norm: 0,
+                pairs: 0,
+            },
+            ahead: Opened {
+                known: false,
+                norm: 0,
+                pairs: Vec::new(alloc),
+            },
+        };
+        stage.prepare()?;
+        Ok(Lifted::Next(stage))
     }
 
     /// What begins with the solutions of this stage, which is finished: its rows with last entry 0, without it.
@@ -301,6 +340,17 @@ impl Stage {
         ensures number { result ≡ length (pairs_of self.now.listed norm) }
         ensures most { result ≤ 2 ^ 42 }
     {
+        if self.counted.known && self.counted.norm == norm {
+            return self.counted.pairs;
+        }
+        self.count_at(norm)
+    }
+
+    /// The same, counted by the classes.
+    fn count_at(&self, norm: u64) -> u64
+        ensures number { result ≡ length (pairs_of self.now.listed norm) }
+        ensures most { result ≤ 2 ^ 42 }
+    {
         count_pairs(&self.plus, &self.minus, norm)
     }
 
@@ -328,6 +378,16 @@ impl Stage {
 
     /// The least norm above the stage's of a row that waits or of a pair.
     pub fn next_norm(&self) -> Option<Next>
+        ensures { IsNext self.now result }
+    {
+        if self.following.known {
+            return self.following.next;
+        }
+        self.least_norm()
+    }
+
+    /// The same, looked for in the classes.
+    fn least_norm(&self) -> Option<Next>
         ensures { IsNext self.now result }
     {
         let pairs = pair_norm_above(&self.plus, &self.minus, self.norm);
@@ -380,7 +440,7 @@ impl Stage {
         norm: u64,
         first: u64,
         count: u64,
-        _hints: &mut Hints,
+        hints: &mut Hints,
         sum: &mut [i64],
         rows: &mut Pool,
     )
@@ -394,7 +454,11 @@ impl Stage {
         ensures kept { length rows.old.rows ≤ length rows.new.rows }
         ensures gains { GainsNumbered self.now norm first (first + count) rows.old.rows rows.new.rows }
     {
-        take_range(self, norm, first, count, sum, rows);
+        if self.ahead.known && self.ahead.norm == norm {
+            take_opened(self, &self.ahead, first, count, hints, sum, rows);
+        } else {
+            take_range(self, norm, first, count, hints, sum, rows);
+        }
     }
 
     /// The irreducible sums of the next norm.
@@ -403,21 +467,12 @@ impl Stage {
         requires small { norm ≤ 9223372036854775807 }
         ensures { IfOk result (IsClosedNorm self.now norm) }
     {
-        let width = self.system.width() + 1;
-        let mut sum: Vec<i64> = vec![in alloc; 0; width as usize]?;
-        let mut found = Found::new(alloc, width);
-        take_norm(
-            alloc,
-            self,
-            &self.plus,
-            &self.minus,
-            norm,
-            &mut sum,
-            &mut found,
-        )?;
+        self.keeps();
+        let rows = gather_all(alloc, self, norm, self.pairs_at(norm))?;
+        let none = Pool::new(alloc, rows.width());
         Ok(Closed {
             norm,
-            rows: found.in_order(alloc)?,
+            rows: in_order(alloc, &rows, &none)?,
         })
     }
 
@@ -472,6 +527,75 @@ impl Stage {
         self.waited += growth.taken;
         self.used += growth.pairs;
         self.norm = closed.norm;
+        self.following.known = false;
+        self.counted.known = false;
+        self.ahead.known = false;
+        // Where memory is refused here, the norm is closed all the same: its pairs are sifted with those of the next.
+        let _ = self.prepare();
+        Ok(())
+    }
+
+    /// Sifts the pairs of the rows that were listed since, and opens the next norm.
+    fn prepare(&mut self) -> Result<(), AllocError>
+        ensures { self.new ≡ self.old }
+    {
+        self.look_ahead();
+        self.sift()?;
+        match self.next_norm() {
+            Some(Next::Norm(e)) => self.open(e),
+            _ => Ok(()),
+        }
+    }
+
+    /// Notes the next norm and the number of its pairs.
+    fn look_ahead(&mut self)
+        ensures { self.new ≡ self.old }
+    {
+        let next = self.least_norm();
+        self.following = Following { known: true, next };
+        if let Some(Next::Norm(norm)) = next {
+            let pairs = self.count_at(norm);
+            self.counted = Counted {
+                known: true,
+                norm,
+                pairs,
+            };
+        }
+    }
+
+    /// Sifts the pairs of the rows that were listed since.
+    fn sift(&mut self) -> Result<(), AllocError>
+        ensures { self.new ≡ self.old }
+    {
+        self.sieve.sift(
+            self.alloc,
+            &self.system,
+            &self.listed,
+            &self.tree,
+            self.norm,
+        )
+    }
+
+    /// Opens a norm.
+    fn open(&mut self, e: u64) -> Result<(), AllocError>
+        requires { self.old.norm < e }
+        ensures { self.new ≡ self.old }
+    {
+        if self.sieve.rows != self.listed.len() {
+            return Ok(());
+        }
+        let width = self.system.width() as usize;
+        let shelf = &self.sieve.shelves[(e % 256) as usize];
+        let opened = open_norm(
+            self.alloc,
+            &self.listed,
+            width,
+            &self.plus,
+            &self.minus,
+            e,
+            shelf.pairs(),
+        )?;
+        self.ahead = opened;
         Ok(())
     }
 }

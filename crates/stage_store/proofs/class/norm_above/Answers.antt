@@ -8,7 +8,7 @@ use Rattle.stage_store.proofs.class.norm_above.Goals as goal
 pub returns-then-place-classes : goal.returns-then-place-classes
 returns-then-place-classes c =
     let cs = c.args.classes.now in
-    let place : ℕ = c.place_from-place.result in
-    let p : IsPlaceFrom cs (c.args.d + 1) place = record { within = c.place_from-place.ensures.within; before = c.place_from-place.ensures.before; from = c.place_from-place.ensures.from } in
+    let place : ℕ = c.place_next-place.result in
+    let p : IsPlaceFrom cs (c.args.d + 1) place = record { within = c.place_next-place.ensures.within; before = c.place_next-place.ensures.before; from = c.place_next-place.ensures.from } in
     subst (λ n. IsLeastAbove (HasNorm c.args.classes.now) c.args.d (Some n)) (sym (c.norm.ensures ∙ ap class_norm (class_at cs place c.index-classes-place.result c.if-place-classes.true c.index-classes-place.is)))
     (norm_found cs c.args.d place c.requires.sorted p c.if-place-classes.true)

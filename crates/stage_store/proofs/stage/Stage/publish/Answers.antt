@@ -1,5 +1,6 @@
 use Rattle.std.proofs.Common.{◌≡◌, ◌∙◌, sym, arith, ap, subst, ◌+◌, length, length-append, ◌++◌, drop}
-use Rattle.std.specs.Prelude.{List, ℤ}
+use Rattle.std.specs.Prelude.{List, ℤ, false}
+use Rattle.std.proofs.Common.{refl}
 use Rattle.lift_core.specs.Stages.{IsNextNorm}
 use Rattle.stage_store.specs.Classes.{ClassValue, with_class}
 use Rattle.stage_store.specs.Stage.{StageValue, IsStage, used_of}
@@ -26,25 +27,26 @@ overflow_add-self-2 c =
 pub invariant_of-self-2 : goal.invariant_of-self-2
 invariant_of-self-2 c =
     holds_after c.self.inside.system c.self.inside.number c.self.inside.norm c.self.inside.before c.args.closed.now.norm c.args.limit c.self.inside.waited c.self.inside.used c.self.inside.listed c.list_rows.new.listed c.self.inside.tree c.list_rows.new.tree c.self.inside.waiting
-    c.self.inside.plus.items c.self.inside.minus.items c.add_class.new.classes.items c.add_class-2.new.classes.items c.in_ok-growth.growth
+    c.self.inside.plus.items c.self.inside.minus.items c.add_class.new.classes.items c.add_class-2.new.classes.items c.self.inside.sieve c.self.inside.following (record { known = false; next = c.self.inside.following.next }) c.self.inside.counted (record { known = false; norm = c.self.inside.counted.norm; pairs = c.self.inside.counted.pairs }) c.self.inside.ahead (record { known = false; norm = c.self.inside.ahead.norm; pairs = c.self.inside.ahead.pairs }) c.in_ok-growth.growth
     c.self.invariant (subst (λ (s : StageValue). IsNextNorm s.listed s.waiting s.norm c.args.closed.now.norm) (sym c.self.view_is) c.requires.next) c.requires.small c.requires.limit
     (subst (λ (s : StageValue). IsGrowth s c.args.closed.now.norm c.args.limit c.in_ok-growth.growth) (sym c.self.view_is) c.in_ok-growth.ensures)
     (c.list_rows.ensures.width ∙ c.make_room.ensures.listed.0)
     (c.in_ok-list_rows.ensures.ok ∙ ap (λ (l : List (List ℤ)). l ++ c.in_ok-growth.growth.rows.rows) c.make_room.ensures.listed.1) c.list_rows.ensures.held
     (c.add_class.ensures ∙ ap (λ (l : List ClassValue). with_class c.in_ok-growth.growth.plus.norm c.in_ok-growth.growth.plus.ids l) c.make_room.ensures.plus)
-    (c.add_class-2.ensures ∙ ap (λ (l : List ClassValue). with_class c.in_ok-growth.growth.minus.norm c.in_ok-growth.growth.minus.ids l) c.make_room.ensures.minus)
+    (c.add_class-2.ensures ∙ ap (λ (l : List ClassValue). with_class c.in_ok-growth.growth.minus.norm c.in_ok-growth.growth.minus.ids l) c.make_room.ensures.minus) refl refl refl
 
 pub returns-clause-end : goal.returns-clause-end
 returns-clause-end c =
     let rows : c.list_rows.new.listed.rows ≡ c.self.inside.listed.rows ++ c.in_ok-growth.growth.rows.rows = c.in_ok-list_rows.ensures.ok ∙ ap (λ (l : List (List ℤ)). l ++ c.in_ok-growth.growth.rows.rows) c.make_room.ensures.listed.1 in
     let g : IsGrowth (value_of c.self.inside.system c.self.inside.number c.self.inside.norm c.self.inside.before c.self.inside.listed.rows (drop c.self.inside.waited c.self.inside.waiting.rows)) c.args.closed.now.norm c.args.limit c.in_ok-growth.growth =
-    subst (λ (s : StageValue). IsGrowth s c.args.closed.now.norm c.args.limit c.in_ok-growth.growth) (sym c.self.view_is) c.in_ok-growth.ensures in (
-      subst (λ (s : StageValue). IsPublished s c.args.closed.now.norm (value_of c.self.inside.system c.self.inside.number c.args.closed.now.norm c.self.inside.before c.list_rows.new.listed.rows (drop (c.self.inside.waited + c.in_ok-growth.growth.taken) c.self.inside.waiting.rows))) c.self.view_is
+    subst (λ (s : StageValue). IsGrowth s c.args.closed.now.norm c.args.limit c.in_ok-growth.growth) (sym c.self.view_is) c.in_ok-growth.ensures in
+    let t : c.prepare.new.self ≡ value_of c.self.inside.system c.self.inside.number c.args.closed.now.norm c.self.inside.before c.list_rows.new.listed.rows (drop (c.self.inside.waited + c.in_ok-growth.growth.taken) c.self.inside.waiting.rows) = c.prepare.ensures in (
+      subst (λ (w : StageValue). IsPublished c.args.self.now c.args.closed.now.norm w) (sym t) (subst (λ (s : StageValue). IsPublished s c.args.closed.now.norm (value_of c.self.inside.system c.self.inside.number c.args.closed.now.norm c.self.inside.before c.list_rows.new.listed.rows (drop (c.self.inside.waited + c.in_ok-growth.growth.taken) c.self.inside.waiting.rows))) c.self.view_is
           (published_is (value_of c.self.inside.system c.self.inside.number c.self.inside.norm c.self.inside.before c.self.inside.listed.rows (drop c.self.inside.waited c.self.inside.waiting.rows)) c.args.closed.now.norm c.args.limit c.in_ok-growth.growth
           c.self.invariant.stage (subst (λ (s : StageValue). IsNextNorm s.listed s.waiting s.norm c.args.closed.now.norm) (sym c.self.view_is) c.requires.next) c.requires.small c.requires.limit g
           (value_of c.self.inside.system c.self.inside.number c.args.closed.now.norm c.self.inside.before c.list_rows.new.listed.rows (drop (c.self.inside.waited + c.in_ok-growth.growth.taken) c.self.inside.waiting.rows))
-          (value_after c.self.inside.system c.self.inside.number c.self.inside.norm c.self.inside.before c.args.closed.now.norm c.self.inside.waited c.in_ok-growth.growth.taken c.self.inside.listed.rows c.in_ok-growth.growth.rows.rows c.list_rows.new.listed.rows c.self.inside.waiting.rows rows)),
-      omega (arith, ap length rows, length-append c.self.inside.listed.rows c.in_ok-growth.growth.rows.rows, g.within),
+          (value_after c.self.inside.system c.self.inside.number c.self.inside.norm c.self.inside.before c.args.closed.now.norm c.self.inside.waited c.in_ok-growth.growth.taken c.self.inside.listed.rows c.in_ok-growth.growth.rows.rows c.list_rows.new.listed.rows c.self.inside.waiting.rows rows))),
+      omega (arith, ap (λ (w : StageValue). length w.listed) t, ap length rows, length-append c.self.inside.listed.rows c.in_ok-growth.growth.rows.rows, g.within),
     )
 
 pub returns-clause-defined : goal.returns-clause-defined

@@ -1,0 +1,197 @@
+-- The sieve: a pair that is kept stays kept, and a pair that is passed over has no irreducible sum.
+use Rattle.std.proofs.Common.{◌≡◌, ℕ, ◌+◌, ◌-◌, ◌*◌, ◌≤◌, ◌<◌, List, [], length, get_or, take, drop, ap, sym, ◌∙◌, subst, arith, inl, inr, Bool, true, false}
+use Rattle.std.proofs.Common.{min, length-drop, get_or-drop, get_or-take, subst₂}
+use Rattle.std.specs.Prelude.{ℤ}
+use Rattle.std.specs.Int.{bit_at}
+use Rattle.std.specs.List.{AllByRecursion}
+use Rattle.std.proofs.lemmas.Bool.{cases_lt, cases_eq}
+use Rattle.std.proofs.lemmas.Int.{ints}
+use Rattle.std.proofs.lemmas.List.{length-take-le}
+use Rattle.lift_core.specs.Systems.{LinearSystem}
+use Rattle.lift_core.specs.Stages.{has_positive_last, has_negative_last}
+use Rattle.stage_store.specs.declared.sieve.Group.{Group}
+use Rattle.stage_store.specs.declared.sieve.Room.{Room}
+use Rattle.lift_core.specs.ToolSystems.{width}
+use Rattle.stage_store.specs.Levels.{MakesNone}
+use Rattle.stage_store.specs.Classes.{row_at, places}
+use Rattle.stage_store.specs.declared.sieve.Sieve.{Sieve}
+use Rattle.stage_store.specs.Sieve.{AreSifted, IsTable, IsSieveTo, IsSieve, IsNewSieve, IsKept, Stay, HasNoNewSumBy, IsSiftedBy, AreSiftedBy, AreWide, IsGroup, IsSized, IsDead, AreAsked, pair_by}
+use Rattle.stage_store.proofs.Tables.{has_place, no_table, table_less}
+use Rattle.std.specs.Prelude.{Result, Ok, Err, OnOk}
+use Rattle.stage_store.specs.Reaches.{AreReaches}
+use Rattle.stage_store.proofs.Classes.{each_at}
+use Rattle.stage_store.specs.declared.sieve.KeptPair.{KeptPair}
+
+pub stay_through : (a b c : List (List KeptPair)) → Stay a b → Stay b c → Stay a c
+stay_through a b c h k = λ p x. k p (h p x)
+
+module _ (positive : Bool) (S : LinearSystem) (listed : List (List ℤ)) where
+  pub sifted_stays : (old new : List (List KeptPair)) (i j : ℕ) → Stay old new → IsSiftedBy positive S listed old i j → IsSiftedBy positive S listed new i j
+  sifted_stays old new i j h s = elim s [ inl k ↦ inl (h (pair_by positive _ i j) k) | inr n ↦ inr n ]
+
+-- ---- rows that bar what another reaches
+module _ (positive : Bool) (S : LinearSystem) (listed : List (List ℤ)) (i j : ℕ) where
+  pub none_made : MakesNone S listed (row_at listed i) (row_at listed j) → HasNoNewSumBy positive S listed i j
+  none_made m = by_sign positive
+    where
+      by_sign : (b : Bool) → HasNoNewSumBy b S listed i j
+      by_sign true = λ z s. m.as_first z s
+      by_sign false = λ z s. m.as_second z s
+
+  pub none_made_turned : MakesNone S listed (row_at listed j) (row_at listed i) → HasNoNewSumBy positive S listed i j
+  none_made_turned m = by_sign positive
+    where
+      by_sign : (b : Bool) → HasNoNewSumBy b S listed i j
+      by_sign true = λ z s. m.as_second z s
+      by_sign false = λ z s. m.as_first z s
+
+-- what the lines of a group tell of its rows and of the one that they are read for
+pub group_has_none : (positive : Bool) (S : LinearSystem) (listed : List (List ℤ)) (i a bits : ℕ) (ids part : List ℕ) (g : Group) (r : Room) → AreWide (width S + 1) listed → i < length listed → AllByRecursion (λ j. j < length listed) ids
+    → IsSized (16 * width S) g → IsGroup S listed ids a g → AreAsked S listed (row_at listed i) r → IsDead g r.bar_reads.items r.reach_reads.items bits → length part ≤ 64 → ((k : ℕ) → k < length part → get_or part k 0 ≡ get_or ids (64 * a + k) 0)
+    → (k : ℕ) → k < length part → bit_at bits k ≡ 1 → HasNoNewSumBy positive S listed i (get_or part k 0)
+group_has_none positive S listed i a bits ids part g r wide il inside sized group asked dead few at k l bit = elim (dead k (omega (arith, l, few)) bit) [
+  | inl x ↦
+      let m : ℕ = get_or r.bar_reads.items x.0 0 in
+      let q = asked.bar_reads x.0 x.1 in
+      let t = group.bars m k (omega (arith, q.0, sized.bars_count)) (omega (arith, l, few)) x.2 in
+      let n : length (row_at listed i) ≡ length (row_at listed (get_or ids (64 * a + k) 0)) = each_at (λ z. length z ≡ width S + 1) listed i [] wide il ∙ sym (each_at (λ z. length z ≡ width S + 1) listed (get_or ids (64 * a + k) 0) [] wide (each_at (λ j. j < length listed) ids (64 * a + k) 0 inside t.0)) in
+      subst (λ j. HasNoNewSumBy positive S listed i j) (sym (at k l)) (none_made_turned positive S listed i (get_or ids (64 * a + k) 0) (t.1 (row_at listed i) n q.1))
+  | inr x ↦
+      let m : ℕ = get_or r.reach_reads.items x.0 0 in
+      let q = asked.reach_reads x.0 x.1 in
+      let t = group.reached m k (omega (arith, q.0, sized.reached_count)) (omega (arith, l, few)) x.2 in
+      let n : length (row_at listed (get_or ids (64 * a + k) 0)) ≡ length (row_at listed i) = each_at (λ z. length z ≡ width S + 1) listed (get_or ids (64 * a + k) 0) [] wide (each_at (λ j. j < length listed) ids (64 * a + k) 0 inside t.0) ∙ sym (each_at (λ z. length z ≡ width S + 1) listed i [] wide il) in
+      subst (λ j. HasNoNewSumBy positive S listed i j) (sym (at k l)) (none_made positive S listed i (get_or ids (64 * a + k) 0) (q.1 (row_at listed (get_or ids (64 * a + k) 0)) n t.1))
+]
+
+-- ---- one group more, one row more
+pub part_at : (n m k : ℕ) (ids : List ℕ) → k < n → get_or (take n (drop m ids)) k 0 ≡ get_or ids (m + k) 0
+part_at n m k ids l = get_or-take n (drop m ids) k 0 l ∙ get_or-drop m ids k 0
+
+pub group_more : (positive : Bool) (S : LinearSystem) (listed : List (List ℤ)) (old new : List (List KeptPair)) (i group to : ℕ) (ids : List ℕ) → Stay old new → to ≡ min (length ids) (64 * group + 64)
+    → ((k : ℕ) → k < 64 * group → k < length ids → IsSiftedBy positive S listed old i (get_or ids k 0)) → AreSiftedBy positive S listed new i (take (to - 64 * group) (drop (64 * group) ids))
+    → (k : ℕ) → k < 64 * (group + 1) → k < length ids → IsSiftedBy positive S listed new i (get_or ids k 0)
+group_more positive S listed old new i group to ids stay e before here k l inside = elim (cases_lt k (64 * group)) [
+  | inl s ↦ sifted_stays positive S listed old new i (get_or ids k 0) stay (before k s inside)
+  | inr s ↦
+      let m : ℕ = k - 64 * group in
+      let less : k - 64 * group < to - 64 * group = omega (arith, e, l, inside, s) in
+      let len : length (take (to - 64 * group) (drop (64 * group) ids)) ≡ to - 64 * group = length-take-le (to - 64 * group) (drop (64 * group) ids) (omega (arith, length-drop (64 * group) ids, e)) in
+      let at : get_or (take (to - 64 * group) (drop (64 * group) ids)) (k - 64 * group) 0 ≡ get_or ids k 0 = part_at (to - 64 * group) (64 * group) (k - 64 * group) ids less ∙ ap (λ n. get_or ids n 0) (omega (arith, s)) in
+      subst (λ j. IsSiftedBy positive S listed new i j) at (here (k - 64 * group) (omega (arith, len, less)))
+]
+
+-- ---- one row more
+module _ (S : LinearSystem) (listed : List (List ℤ)) (d i : ℕ) (old new : List (List KeptPair)) (stay : Stay old new) (inside : i < length listed) (before : AreSifted S listed d i old) where
+  -- the place of an earlier row
+  place_before : (test : List ℤ → Bool) (j : ℕ) → j < i → test (row_at listed j) ≡ true → (k : ℕ) × (k < length (places test 0 (take i listed))) × (get_or (places test 0 (take i listed)) k 0 ≡ 0 + j)
+  place_before test j l t =
+      let same : get_or (take i listed) j [] ≡ row_at listed j = get_or-take i listed j [] l in
+      has_place test 0 (take i listed) j (omega (arith, length-take-le i listed (omega (arith, inside)), l)) (ap test same ∙ t)
+
+  turn_round : (j : ℕ) → IsSiftedBy false S listed new i j → IsSiftedBy true S listed new j i
+  turn_round j s = elim s [
+    | inl k ↦ inl (subst (λ m. IsKept new (pair_by true m j i)) (omega arith) k)
+    | inr h ↦ inr h
+  ]
+
+  pub sifted_above : has_negative_last (row_at listed i) ≡ false → AreSiftedBy true S listed new i (places has_negative_last 0 (take i listed)) → AreSifted S listed d (i + 1) new
+  sifted_above sign here = λ x y xl yl p m up. elim (cases_eq y i) [
+    | inl e ↦ absurd (not_both (has_negative_last (row_at listed i)) sign (subst (λ n. has_negative_last (row_at listed n) ≡ true) e m))
+    | inr f ↦ elim (cases_eq x i) [
+      | inl e ↦
+          let k = place_before has_negative_last y (omega (arith, yl, f)) m in
+          subst₂ (λ (n o : ℕ). IsSiftedBy true S listed new n o) (sym e) (k.2 ∙ omega arith) (here k.0 k.1)
+      | inr e ↦ sifted_stays true S listed old new x y stay (before x y (omega (arith, xl, e)) (omega (arith, yl, f)) p m up)
+    ]
+  ]
+    where
+      not_both : (b : Bool) → b ≡ false → b ≡ true → ⊥
+      not_both b e f = let g : true ≡ false = sym f ∙ e in cc
+
+  pub sifted_under : has_positive_last (row_at listed i) ≡ false → AreSiftedBy false S listed new i (places has_positive_last 0 (take i listed)) → AreSifted S listed d (i + 1) new
+  sifted_under sign here = λ x y xl yl p m up. elim (cases_eq x i) [
+    | inl e ↦ absurd (not_both (has_positive_last (row_at listed i)) sign (subst (λ n. has_positive_last (row_at listed n) ≡ true) e p))
+    | inr f ↦ elim (cases_eq y i) [
+      | inl e ↦
+          let k = place_before has_positive_last x (omega (arith, xl, f)) p in
+          subst (λ n. IsSiftedBy true S listed new x n) (sym e) (turn_round x (subst (λ n. IsSiftedBy false S listed new i n) (k.2 ∙ omega arith) (here k.0 k.1)))
+      | inr e ↦ sifted_stays true S listed old new x y stay (before x y (omega (arith, xl, f)) (omega (arith, yl, e)) p m up)
+    ]
+  ]
+    where
+      not_both : (b : Bool) → b ≡ false → b ≡ true → ⊥
+      not_both b e f = let g : true ≡ false = sym f ∙ e in cc
+
+  pub sifted_neither : has_positive_last (row_at listed i) ≡ false → has_negative_last (row_at listed i) ≡ false → AreSifted S listed d (i + 1) new
+  sifted_neither above under = λ x y xl yl p m up. elim (cases_eq x i) [
+    | inl e ↦ absurd (not_both (has_positive_last (row_at listed i)) above (subst (λ n. has_positive_last (row_at listed n) ≡ true) e p))
+    | inr f ↦ elim (cases_eq y i) [
+      | inl e ↦ absurd (not_both (has_negative_last (row_at listed i)) under (subst (λ n. has_negative_last (row_at listed n) ≡ true) e m))
+      | inr e ↦ sifted_stays true S listed old new x y stay (before x y (omega (arith, xl, f)) (omega (arith, yl, e)) p m up)
+    ]
+  ]
+    where
+      not_both : (b : Bool) → b ≡ false → b ≡ true → ⊥
+      not_both b e f = let g : true ≡ false = sym f ∙ e in cc
+
+-- one sign alone
+pub not_negative : (z : List ℤ) → has_positive_last z ≡ true → has_negative_last z ≡ false
+not_negative z p = grind (arith, ints)
+
+pub not_positive : (z : List ℤ) → has_negative_last z ≡ true → has_positive_last z ≡ false
+not_positive z p = grind (arith, ints)
+
+-- ---- the sieve with one row more
+module _ {E : Type 0} (S : LinearSystem) (listed : List (List ℤ)) (d i : ℕ) (old v : Sieve) (inside : i < length listed) (h : IsSieveTo S listed d i old) (stay : Stay old.shelves.items v.shelves.items)
+    (shelves : length v.shelves.items ≡ 256) (count : length v.reaches.items ≡ i + 1) (reaches : AreReaches listed v.reaches.items) where
+  pub on_ok_above : (r : Result (Unit {0}) E) → has_positive_last (row_at listed i) ≡ true → v.minus ≡ old.minus → AreSiftedBy true S listed v.shelves.items i old.minus.ids.items → OnOk r (IsTable S listed has_positive_last (i + 1) v.plus)
+      → OnOk r (IsSieveTo S listed d (i + 1) v)
+  on_ok_above (Ok u) sign same here table = record {
+    plus_table = table;
+    minus_table = subst (IsTable S listed has_negative_last (i + 1)) (sym same) (table_less S listed has_negative_last i old.minus inside (not_negative (row_at listed i) sign) h.minus_table);
+    shelves_are = shelves;
+    reach_count = count;
+    reaches_are = reaches;
+    sifted = sifted_above S listed d i old.shelves.items v.shelves.items stay inside h.sifted (not_negative (row_at listed i) sign)
+        (subst (λ ids. AreSiftedBy true S listed v.shelves.items i ids) h.minus_table.ids_are here);
+  }
+  on_ok_above (Err x) sign same here table = tt
+
+  pub on_ok_under : (r : Result (Unit {0}) E) → has_negative_last (row_at listed i) ≡ true → v.plus ≡ old.plus → AreSiftedBy false S listed v.shelves.items i old.plus.ids.items → OnOk r (IsTable S listed has_negative_last (i + 1) v.minus)
+      → OnOk r (IsSieveTo S listed d (i + 1) v)
+  on_ok_under (Ok u) sign same here table = record {
+    plus_table = subst (IsTable S listed has_positive_last (i + 1)) (sym same) (table_less S listed has_positive_last i old.plus inside (not_positive (row_at listed i) sign) h.plus_table);
+    minus_table = table;
+    shelves_are = shelves;
+    reach_count = count;
+    reaches_are = reaches;
+    sifted = sifted_under S listed d i old.shelves.items v.shelves.items stay inside h.sifted (not_positive (row_at listed i) sign)
+        (subst (λ ids. AreSiftedBy false S listed v.shelves.items i ids) h.plus_table.ids_are here);
+  }
+  on_ok_under (Err x) sign same here table = tt
+
+module _ (S : LinearSystem) (listed : List (List ℤ)) (d i : ℕ) (old v : Sieve) (inside : i < length listed) (h : IsSieveTo S listed d i old) (stay : Stay old.shelves.items v.shelves.items)
+    (shelves : length v.shelves.items ≡ 256) (count : length v.reaches.items ≡ i + 1) (reaches : AreReaches listed v.reaches.items) where
+  pub sieve_neither : has_positive_last (row_at listed i) ≡ false → has_negative_last (row_at listed i) ≡ false → v.plus ≡ old.plus → v.minus ≡ old.minus → IsSieveTo S listed d (i + 1) v
+  sieve_neither above under p m = record {
+    plus_table = subst (IsTable S listed has_positive_last (i + 1)) (sym p) (table_less S listed has_positive_last i old.plus inside above h.plus_table);
+    minus_table = subst (IsTable S listed has_negative_last (i + 1)) (sym m) (table_less S listed has_negative_last i old.minus inside under h.minus_table);
+    shelves_are = shelves;
+    reach_count = count;
+    reaches_are = reaches;
+    sifted = sifted_neither S listed d i old.shelves.items v.shelves.items stay inside h.sifted above under;
+  }
+
+pub new_sieve : (S : LinearSystem) (listed : List (List ℤ)) (d : ℕ) (v : Sieve) → IsNewSieve v → IsSieve S listed d v
+new_sieve S listed d v h = record {
+  within = omega (arith, h.none);
+  upto = record {
+    plus_table = no_table S listed has_positive_last v.rows v.plus h.none h.plus_ids h.plus_groups;
+    minus_table = no_table S listed has_negative_last v.rows v.minus h.none h.minus_ids h.minus_groups;
+    shelves_are = h.shelves_are;
+    reach_count = omega (arith, ap length h.no_reaches, h.none);
+    reaches_are = λ k l. absurd (omega (arith, ap length h.no_reaches, l));
+    sifted = λ i j l. absurd (omega (arith, h.none, l));
+  };
+}

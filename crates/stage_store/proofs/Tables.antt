@@ -1,0 +1,190 @@
+-- The places of the rows that pass a test, and lines over each 64 of them, as more rows come.
+use Rattle.std.proofs.Common.{◌≡◌, ℕ, zero, suc, ◌+◌, ◌-◌, ◌*◌, ◌/◌, ◌≤◌, ◌<◌, List, [], ◌∷◌, ◌++◌, length, get_or, take, drop, ap, sym, ◌∙◌, subst, subst₂, arith, inl, inr, Bool, true, false, cond, min, length-append, length-drop}
+use Rattle.std.specs.Prelude.{ℤ, Result, Ok, Err, OnOk}
+use Rattle.std.specs.List.{AllByRecursion}
+use Rattle.std.proofs.lemmas.Bool.{cases_Bool, cases_lt, cases_eq}
+use Rattle.std.proofs.lemmas.List.{take_more, take_all, append-nil, length-take-le, get_or_append_left, get_or-append-add}
+use Rattle.stage_store.specs.declared.sieve.Group.{Group}
+use Rattle.stage_store.specs.Levels.{BarsLine, ReachesLine}
+use Rattle.stage_store.proofs.LineBits.{tell_stays, tell_marked}
+use Rattle.std.proofs.lemmas.List.{get_or-set_other, length-set}
+use Rattle.std.proofs.lemmas.Grind.{get_or-set_at}
+use Rattle.std.proofs.Common.{set}
+use Rattle.stage_store.specs.Lines.{MarksRow}
+use Rattle.stage_store.specs.Levels.{AreTrue}
+use Rattle.stage_store.specs.Classes.{row_at, places}
+use Rattle.std.proofs.Common.{◌^◌}
+use Rattle.std.proofs.lemmas.List.{take-append-drop}
+use Rattle.lift_core.specs.Systems.{LinearSystem}
+use Rattle.lift_core.specs.ToolSystems.{width}
+use Rattle.stage_store.specs.declared.sieve.Table.{Table}
+use Rattle.stage_store.specs.Sieve.{IsGroup, AreGroups, IsSized, AreSized, IsTable}
+
+module _ (test : List ℤ → Bool) where
+  pub places_append : (b : ℕ) (xs ys : List (List ℤ)) → places test b (xs ++ ys) ≡ places test b xs ++ places test (b + length xs) ys
+  places_append b [] ys = ap (λ n. places test n ys) (omega arith)
+  places_append b (x ∷ xs) ys =
+      let e : b + 1 + length xs ≡ b + length (x ∷ xs) = omega arith in
+      let r : places test (b + 1) (xs ++ ys) ≡ places test (b + 1) xs ++ places test (b + length (x ∷ xs)) ys = places_append (b + 1) xs ys ∙ ap (λ n. places test (b + 1) xs ++ places test n ys) e in
+      elim (cases_Bool (test x)) [
+        | inl t ↦ rw t (ap (λ l. b ∷ l) r)
+        | inr t ↦ rw t r
+      ]
+
+  last_place : (rows : List (List ℤ)) (i : ℕ) → i < length rows → places test 0 (take (i + 1) rows) ≡ places test 0 (take i rows) ++ places test i (get_or rows i [] ∷ [])
+  last_place rows i l =
+      let e : 0 + length (take i rows) ≡ i = omega (arith, length-take-le i rows (omega (arith, l))) in
+      ap (places test 0) (take_more rows i [] l) ∙ places_append 0 (take i rows) (get_or rows i [] ∷ []) ∙ ap (λ n. places test 0 (take i rows) ++ places test n (get_or rows i [] ∷ [])) e
+
+  pub one_place : (rows : List (List ℤ)) (i : ℕ) (ids new : List ℕ) → i < length rows → test (get_or rows i []) ≡ true → ids ≡ places test 0 (take i rows) → new ≡ ids ++ (i ∷ []) → new ≡ places test 0 (take (i + 1) rows)
+  one_place rows i ids new l t e is = is ∙ ap (λ x. x ++ (i ∷ [])) e ∙ sym (last_place rows i l ∙ ap (λ b. places test 0 (take i rows) ++ cond b (i ∷ []) []) t)
+
+  pub no_place : (rows : List (List ℤ)) (i : ℕ) (ids : List ℕ) → i < length rows → test (get_or rows i []) ≡ false → ids ≡ places test 0 (take i rows) → ids ≡ places test 0 (take (i + 1) rows)
+  no_place rows i ids l t e = e ∙ sym (last_place rows i l ∙ ap (λ b. places test 0 (take i rows) ++ cond b (i ∷ []) []) t ∙ append-nil (places test 0 (take i rows)))
+
+  -- each place is that of a row, and each row that passes has its place
+  pub places_inside : (b : ℕ) (rows : List (List ℤ)) (m : ℕ) → b + length rows ≤ m → AllByRecursion (λ i. i < m) (places test b rows)
+  places_inside b [] m l = tt
+  places_inside b (x ∷ rows) m l = elim (cases_Bool (test x)) [
+    | inl t ↦ rw t (omega (arith, l), places_inside (b + 1) rows m (omega (arith, l)))
+    | inr t ↦ rw t (places_inside (b + 1) rows m (omega (arith, l)))
+  ]
+
+  pub has_place : (b : ℕ) (rows : List (List ℤ)) (i : ℕ) → i < length rows → test (get_or rows i []) ≡ true → (k : ℕ) × (k < length (places test b rows)) × (get_or (places test b rows) k 0 ≡ b + i)
+  has_place b [] i l t = absurd (omega arith)
+  has_place b (x ∷ rows) zero l t = rw t (0, omega arith, omega arith)
+  has_place b (x ∷ rows) (suc i) l t =
+      let r : (k : ℕ) × (k < length (places test (b + 1) rows)) × (get_or (places test (b + 1) rows) k 0 ≡ b + 1 + i) = has_place (b + 1) rows i (omega arith) t in
+      elim (cases_Bool (test x)) [
+        | inl s ↦ rw s (suc r.0, omega (arith, r.1), r.2 ∙ omega arith)
+        | inr s ↦ rw s (r.0, r.1, r.2 ∙ omega arith)
+      ]
+
+-- ---- lines
+pub group_part : (ids : List ℕ) (group to : ℕ) → group < (length ids + 63) / 64 → to ≡ min (length ids) (64 * group + 64) → take (to - 64 * group) (drop (64 * group) ids) ≡ take 64 (drop (64 * group) ids)
+group_part ids group to l e = elim (cases_lt (length ids) (64 * group + 64)) [
+  | inl s ↦
+      let n : to ≡ length ids = omega (arith, e, s) in
+      take_all (to - 64 * group) (drop (64 * group) ids) (omega (arith, length-drop (64 * group) ids, n))
+      ∙ sym (take_all 64 (drop (64 * group) ids) (omega (arith, length-drop (64 * group) ids, s)))
+  | inr s ↦ let n : to - 64 * group ≡ 64 = omega (arith, e, s) in ap (λ m. take m (drop (64 * group) ids)) n
+]
+
+each_taken : {A : Type 0} (P : A → Type 0) (n : ℕ) (xs : List A) → AllByRecursion P xs → AllByRecursion P (take n xs)
+each_taken P zero xs h = tt
+each_taken P (suc n) [] h = tt
+each_taken P (suc n) (x ∷ xs) h = (h.0, each_taken P n xs h.1)
+
+pub each_cut : {A : Type 0} (P : A → Type 0) (n m : ℕ) (xs : List A) → AllByRecursion P xs → AllByRecursion P (take n (drop m xs))
+each_cut P n zero xs h = each_taken P n xs h
+each_cut P n (suc m) [] h = each_taken P n [] tt
+each_cut P n (suc m) (x ∷ xs) h = each_cut P n m xs h.1
+
+-- ---- more rows come
+pub places_few : (test : List ℤ → Bool) (b : ℕ) (rows : List (List ℤ)) → length (places test b rows) ≤ length rows
+places_few test b [] = omega arith
+places_few test b (x ∷ rows) = elim (cases_Bool (test x)) [
+  | inl t ↦ rw t (omega (arith, places_few test (b + 1) rows))
+  | inr t ↦ rw t (omega (arith, places_few test (b + 1) rows))
+]
+
+pub places_grow : (test : List ℤ → Bool) (n : ℕ) (rows : List (List ℤ)) → n ≤ length rows → places test 0 rows ≡ places test 0 (take n rows) ++ places test n (drop n rows)
+places_grow test n rows l =
+    let e : 0 + length (take n rows) ≡ n = omega (arith, length-take-le n rows l) in
+    ap (places test 0) (sym (take-append-drop n rows)) ∙ places_append test 0 (take n rows) (drop n rows) ∙ ap (λ m. places test 0 (take n rows) ++ places test m (drop n rows)) e
+
+-- ---- tables
+pub inside_table : (S : LinearSystem) (listed : List (List ℤ)) (test : List ℤ → Bool) (n : ℕ) (t : Table) → n ≤ length listed → IsTable S listed test n t → AllByRecursion (λ i. i < n) t.ids.items
+inside_table S listed test n t l h = subst (λ ids. AllByRecursion (λ i. i < n) ids) (sym h.ids_are) (places_inside test 0 (take n listed) n (omega (arith, length-take-le n listed l)))
+
+pub few_table : (S : LinearSystem) (listed : List (List ℤ)) (test : List ℤ → Bool) (n : ℕ) (t : Table) → n ≤ length listed → length listed ≤ 2 ^ 21 → IsTable S listed test n t → length t.ids.items ≤ 2 ^ 21
+few_table S listed test n t l few h = omega (arith, ap length h.ids_are, places_few test 0 (take n listed), length-take-le n listed l, l, few)
+
+-- one row more that passes the test
+pub table_more : (S : LinearSystem) (listed : List (List ℤ)) (test : List ℤ → Bool) (i : ℕ) (old new : Table) → i < length listed → test (row_at listed i) ≡ true → IsTable S listed test i old
+    → new.ids.items ≡ old.ids.items ++ (i ∷ []) → length new.groups.items ≡ (length new.ids.items + 63) / 64 → AreSized (16 * width S) new.groups.items → AreGroups S listed new.ids.items new.groups.items → IsTable S listed test (i + 1) new
+table_more S listed test i old new l t h ids count sized groups = record {
+  ids_are = one_place test listed i old.ids.items new.ids.items l t h.ids_are ids;
+  count = count;
+  sized = sized;
+  groups = groups;
+}
+
+-- one row more that does not
+pub table_less : (S : LinearSystem) (listed : List (List ℤ)) (test : List ℤ → Bool) (i : ℕ) (t : Table) → i < length listed → test (row_at listed i) ≡ false → IsTable S listed test i t → IsTable S listed test (i + 1) t
+table_less S listed test i t l fails h = record {
+  ids_are = no_place test listed i t.ids.items l fails h.ids_are;
+  count = h.count;
+  sized = h.sized;
+  groups = h.groups;
+}
+
+pub no_table : (S : LinearSystem) (listed : List (List ℤ)) (test : List ℤ → Bool) (n : ℕ) (t : Table) → n ≡ 0 → t.ids.items ≡ [] → t.groups.items ≡ [] → IsTable S listed test n t
+no_table S listed test n t z e f = record {
+  ids_are = e ∙ sym (ap (λ m. places test 0 (take m listed)) z);
+  count = omega (arith, ap length e, ap length f);
+  sized = λ a d l. absurd (omega (arith, ap length f, l));
+  groups = λ a d l. absurd (omega (arith, ap length f, l));
+}
+
+-- ---- groups
+-- a group that is put at its place
+pub groups_put : (S : LinearSystem) (listed : List (List ℤ)) (ids : List ℕ) (groups : List Group) (g : Group) → AreGroups S listed ids groups → IsGroup S listed ids (length groups) g → AreGroups S listed ids (groups ++ (g ∷ []))
+groups_put S listed ids groups g h here = λ a d l. elim (cases_lt a (length groups)) [
+  | inl s ↦ subst (IsGroup S listed ids a) (sym (get_or_append_left groups (g ∷ []) d a s)) (h a d s)
+  | inr s ↦
+      let at : a ≡ length groups + 0 = omega (arith, l, length-append groups (g ∷ []), s) in
+      let e : get_or (groups ++ (g ∷ [])) a d ≡ g = ap (λ m. get_or (groups ++ (g ∷ [])) m d) at ∙ get_or-append-add groups (g ∷ []) 0 d in
+      subst₂ (λ (m : ℕ) (x : Group). IsGroup S listed ids m x) (omega (arith, at)) (sym e) here
+]
+
+pub sized_put : (n : ℕ) (groups : List Group) (g : Group) → AreSized n groups → IsSized n g → AreSized n (groups ++ (g ∷ []))
+sized_put n groups g h here = λ a d l. elim (cases_lt a (length groups)) [
+  | inl s ↦ subst (IsSized n) (sym (get_or_append_left groups (g ∷ []) d a s)) (h a d s)
+  | inr s ↦
+      let at : a ≡ length groups + 0 = omega (arith, l, length-append groups (g ∷ []), s) in
+      subst (IsSized n) (sym (ap (λ m. get_or (groups ++ (g ∷ [])) m d) at ∙ get_or-append-add groups (g ∷ []) 0 d)) here
+]
+
+pub sized_set : (n : ℕ) (groups : List Group) (b : ℕ) (g : Group) → AreSized n groups → IsSized n g → AreSized n (set groups b g)
+sized_set n groups b g h here = λ a d l. elim (cases_eq a b) [
+  | inl s ↦ subst (IsSized n) (sym (get_or-set_at groups b a g d s (omega (arith, l, length-set groups b g, s)))) here
+  | inr s ↦ subst (IsSized n) (sym (get_or-set_other groups b a g d s)) (h a d (omega (arith, l, length-set groups b g)))
+]
+
+-- the last group with one row more
+pub groups_set : (S : LinearSystem) (listed : List (List ℤ)) (ids : List ℕ) (i : ℕ) (groups : List Group) (b : ℕ) (g : Group) → AreGroups S listed ids groups → IsGroup S listed (ids ++ (i ∷ [])) b g → AreGroups S listed (ids ++ (i ∷ [])) (set groups b g)
+groups_set S listed ids i groups b g h here = λ a d l. elim (cases_eq a b) [
+  | inl s ↦ subst₂ (λ (m : ℕ) (x : Group). IsGroup S listed (ids ++ (i ∷ [])) m x) (sym s) (sym (get_or-set_at groups b a g d s (omega (arith, l, length-set groups b g, s)))) here
+  | inr s ↦
+      let r : IsGroup S listed ids a (get_or groups a d) = h a d (omega (arith, l, length-set groups b g)) in
+      subst (IsGroup S listed (ids ++ (i ∷ [])) a) (sym (get_or-set_other groups b a g d s)) (record {
+        bars = tell_stays (BarsLine S listed) listed ids i a (get_or groups a d).bars r.bars;
+        reached = tell_stays ReachesLine listed ids i a (get_or groups a d).reached r.reached;
+      })
+]
+
+-- the last group with a row marked
+pub group_marked : (S : LinearSystem) (listed : List (List ℤ)) (ids : List ℕ) (i b q : ℕ) (bars reached bars' reached' : List ℕ) (g : Group) → length ids ≡ 64 * b + q → IsSized (8 * length bars) g → length bars ≡ length reached
+    → AreTrue (BarsLine S listed (row_at listed i)) true bars → AreTrue (ReachesLine (row_at listed i)) false reached → length bars' ≡ length g.bars → length reached' ≡ length g.reached
+    → MarksRow true bars q g.bars bars' → MarksRow false reached q g.reached reached' → IsGroup S listed ids b g → IsGroup S listed (ids ++ (i ∷ [])) b (record { bars = bars'; reached = reached' })
+group_marked S listed ids i b q bars reached bars' reached' g place sized same above under n m marks marks' h = record {
+  bars = tell_marked (BarsLine S listed) listed ids i b q true bars g.bars bars' place n marks (λ k l said. above k (omega (arith, l, sized.bars_count)) said) h.bars;
+  reached = tell_marked ReachesLine listed ids i b q false reached g.reached reached' place m marks' (λ k l said. under k (omega (arith, l, sized.reached_count, same)) said) h.reached;
+}
+
+pub each_less : (m n : ℕ) (ids : List ℕ) → m ≤ n → AllByRecursion (λ i. i < m) ids → AllByRecursion (λ i. i < n) ids
+each_less m n [] l h = tt
+each_less m n (i ∷ ids) l h = (omega (arith, l, h.0), each_less m n ids l h.1)
+
+pub on_ok_table : {E : Type 0} (S : LinearSystem) (listed : List (List ℤ)) (test : List ℤ → Bool) (i : ℕ) (old new : Table) (r : Result (Unit {0}) E) → i < length listed → test (row_at listed i) ≡ true → IsTable S listed test i old
+    → OnOk r (new.ids.items ≡ old.ids.items ++ (i ∷ [])) → OnOk r (length new.groups.items ≡ (length new.ids.items + 63) / 64) → OnOk r (AreSized (16 * width S) new.groups.items) → OnOk r (AreGroups S listed new.ids.items new.groups.items)
+    → OnOk r (IsTable S listed test (i + 1) new)
+on_ok_table S listed test i old new (Ok u) l t h ids count sized groups = table_more S listed test i old new l t h ids count sized groups
+on_ok_table S listed test i old new (Err x) l t h ids count sized groups = tt
+
+pub on_ok_groups : {E : Type 0} (S : LinearSystem) (listed : List (List ℤ)) (i : ℕ) (bars reached ids ids' : List ℕ) (groups groups' : List Group) (r : Result (Unit {0}) E)
+    → OnOk r ((S : LinearSystem) (listed : List (List ℤ)) → AreGroups S listed ids groups → AreTrue (BarsLine S listed (row_at listed i)) true bars → AreTrue (ReachesLine (row_at listed i)) false reached → AreGroups S listed ids' groups')
+    → AreGroups S listed ids groups → AreTrue (BarsLine S listed (row_at listed i)) true bars → AreTrue (ReachesLine (row_at listed i)) false reached → OnOk r (AreGroups S listed ids' groups')
+on_ok_groups S listed i bars reached ids ids' groups groups' (Ok u) h before above under = h S listed before above under
+on_ok_groups S listed i bars reached ids ids' groups groups' (Err x) h before above under = tt

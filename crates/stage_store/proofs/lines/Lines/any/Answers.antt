@@ -1,0 +1,11 @@
+use Rattle.std.proofs.Common.{◌∙◌, ◌<◌, ℕ, List, length, get_or, ap, arith}
+use Rattle.std.proofs.lemmas.List.{get_or_default}
+use Rattle.stage_store.proofs.LineBits.{read_more}
+use Rattle.stage_store.proofs.lines.Lines.any.Goals as goal
+
+pub loop-k-preserved : goal.loop-k-preserved
+loop-k-preserved c =
+    let place : ℕ = get_or c.args.places.now c.loop-k.k 0 in
+    let inside : get_or c.args.places.now c.loop-k.k 0 < length c.self.inside.words.items = omega (arith, ap length c.self.view_is, c.requires c.loop-k.k c.loop-k-test.true) in
+    read_more c.loop-k.k c.loop-k.bits c.index.result.now c.args.self.now c.args.places.now
+    (c.index.ensures ∙ get_or_default c.self.inside.words.items (get_or c.args.places.now c.loop-k.k 0) c.index.result.now 0 inside ∙ ap (λ (l : List ℕ). get_or l (get_or c.args.places.now c.loop-k.k 0) 0) c.self.view_is) c.loop-k.invariant

@@ -1,0 +1,19 @@
+use Rattle.std.proofs.Common.{ℕ, sym, subst, arith}
+use Rattle.stage_store.specs.Sieve.{IsSieveTo}
+use Rattle.stage_store.proofs.sieve.Sieve.sift.Goals as goal
+
+pub returns-in-Ok-clause-held : goal.returns-in-Ok-clause-held
+returns-in-Ok-clause-held c =
+    let u : IsSieveTo c.args.system.now.equations c.args.listed.now.rows c.args.norm c.len-self.result c.sift_rows.new.self =
+    subst (λ (n : ℕ). IsSieveTo c.args.system.now.equations c.args.listed.now.rows c.args.norm n c.sift_rows.new.self) (sym c.len-self.ensures) c.in-Ok.ensures.upto in
+    record {
+      within = omega (arith, c.len-self.ensures);
+      upto = record {
+        plus_table = u.plus_table;
+        minus_table = u.minus_table;
+        shelves_are = u.shelves_are;
+        reach_count = u.reach_count;
+        reaches_are = u.reaches_are;
+        sifted = u.sifted;
+      };
+    }

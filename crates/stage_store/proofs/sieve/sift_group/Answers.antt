@@ -1,0 +1,45 @@
+use Rattle.std.proofs.Common.{◌≡◌, ◌∙◌, ◌<◌, sym, refl, inl, inr, slice_index_or, length, ap, arith}
+use Rattle.std.specs.Int.{bit_at}
+use Rattle.std.proofs.lemmas.Nat.Bits.{shr_and_one, bit_at_ones}
+use borrow.Author.Count.{below_more}
+use Rattle.stage_store.specs.Sieve.{IsSiftedBy}
+use Rattle.stage_store.proofs.Classes.{each_at}
+use Rattle.stage_store.proofs.Sifting.{sifted_stays, stay_through}
+use Rattle.stage_store.proofs.sieve.sift_group.Goals as goal
+
+pub loop-k-preserved-then-dead-k-eq1 : goal.loop-k-preserved-then-dead-k-eq1
+loop-k-preserved-then-dead-k-eq1 c =
+    let bit : bit_at c.args.dead c.loop-k.k ≡ 1 = sym (shr_and_one c.args.dead c.loop-k.k) ∙ c.if-dead-k-eq1.true in
+    record {
+      count = c.loop-k.invariant.count;
+      stay = c.loop-k.invariant.stay;
+      sifted = below_more (λ k. IsSiftedBy c.args.positive c.args.system.now.equations c.args.listed.now.rows c.loop-k.shelves.items c.args.i (slice_index_or c.args.others.now k 0)) c.loop-k.k c.loop-k.invariant.sifted
+          (inr (c.requires.dead c.loop-k.k c.loop-k-test.true bit));
+    }
+
+pub loop-k-preserved-then-is_passed : goal.loop-k-preserved-then-is_passed
+loop-k-preserved-then-is_passed c = record {
+  count = c.loop-k.invariant.count;
+  stay = c.loop-k.invariant.stay;
+  sifted = below_more (λ k. IsSiftedBy c.args.positive c.args.system.now.equations c.args.listed.now.rows c.loop-k.shelves.items c.args.i (slice_index_or c.args.others.now k 0)) c.loop-k.k c.loop-k.invariant.sifted
+      (inr (c.if-is_passed.ensures c.args.system.now.equations refl));
+}
+
+pub is_passed-requires-clause-two : goal.is_passed-requires-clause-two
+is_passed-requires-clause-two c = each_at (λ j. j < _) c.args.others.now c.loop-k.k 0 c.requires.others c.loop-k-test.true
+
+pub loop-k-preserved : goal.loop-k-preserved
+loop-k-preserved c = record {
+  count = c.keep_rows.ensures.count;
+  stay = stay_through _ _ _ c.loop-k.invariant.stay c.keep_rows.ensures.stay;
+  sifted = below_more (λ k. IsSiftedBy c.args.positive c.args.system.now.equations c.args.listed.now.rows c.keep_rows.new.shelves.items c.args.i (slice_index_or c.args.others.now k 0)) c.loop-k.k
+      (λ k l. sifted_stays c.args.positive c.args.system.now.equations c.args.listed.now.rows c.loop-k.shelves.items c.keep_rows.new.shelves.items c.args.i (slice_index_or c.args.others.now k 0) c.keep_rows.ensures.stay (c.loop-k.invariant.sifted k l))
+      (inl c.in_ok-keep_rows.ensures.kept);
+}
+
+pub keep_rows-requires-clause-two : goal.keep_rows-requires-clause-two
+keep_rows-requires-clause-two c = omega (arith, each_at (λ j. j < length c.args.reaches.now) c.args.others.now c.loop-k.k 0 c.requires.others c.loop-k-test.true, c.requires.reach_count)
+
+pub returns-then-dead-eq18446744073709551615-clause-sifted : goal.returns-then-dead-eq18446744073709551615-clause-sifted
+returns-then-dead-eq18446744073709551615-clause-sifted c = λ k l.
+    inr (c.requires.dead k l (ap (λ n. bit_at n k) c.if-dead-eq18446744073709551615.true ∙ bit_at_ones 64 k (omega (arith, l, c.requires.most))))

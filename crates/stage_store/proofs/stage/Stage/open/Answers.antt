@@ -1,0 +1,46 @@
+use Rattle.std.proofs.Common.{◌≡◌, ◌∙◌, ◌<◌, ◌%◌, ℕ, List, [], arith, ap, sym, subst, subst₂, get_or, length, drop}
+use Rattle.lift_core.specs.Stages.{has_positive_last, has_negative_last}
+use Rattle.stage_store.specs.Classes.{ClassValue, AreClasses}
+use Rattle.stage_store.specs.Stage.{IsStage, norm_of}
+use Rattle.stage_store.specs.Opened.{AreOpened, IsOpen}
+use Rattle.stage_store.proofs.Classes.{get_or-default}
+use Rattle.stage_store.proofs.Held.{classes_of, stage_of, parts_under}
+use Rattle.stage_store.proofs.Onward.{value_of}
+use Rattle.stage_store.proofs.Opening.{opened_is_open}
+use Rattle.stage_store.proofs.stage.Stage.open.Goals as goal
+
+pub open_norm-requires-clause-small : goal.open_norm-requires-clause-small
+open_norm-requires-clause-small c =
+    let s : IsStage c.args.self.now = stage_of c.self.view_is c.self.invariant.stage in
+    let p : AreClasses c.args.self.now.listed has_positive_last c.deref.result.now = classes_of has_positive_last c.self.view_is c.deref.ensures.value c.self.invariant.plus_classes in
+    let m : AreClasses c.args.self.now.listed has_negative_last c.deref-2.result.now = classes_of has_negative_last c.self.view_is c.deref-2.ensures.value c.self.invariant.minus_classes in
+    parts_under c.args.self.now c.deref.result.now c.deref-2.result.now c.args.e s p m
+
+pub invariant_of-self : goal.invariant_of-self
+invariant_of-self c =
+    let i = c.self.invariant in
+    let a : AreOpened c.self.inside.plus.items c.self.inside.minus.items c.args.e c.pairs.result.now c.in_ok-opened.opened.pairs.items =
+    subst₂ (λ (p m : List ClassValue). AreOpened p m c.args.e c.pairs.result.now c.in_ok-opened.opened.pairs.items) c.deref.ensures.value c.deref-2.ensures.value c.in_ok-opened.ensures.opened in
+    let above : c.self.inside.norm < c.args.e = omega (arith, ap norm_of c.self.view_is, c.requires) in
+    let rows : c.self.inside.sieve.rows ≡ length c.self.inside.listed.rows = c.if-self-len.false ∙ c.len.ensures in
+    let here : c.pairs.result.now ≡ get_or c.self.inside.sieve.shelves.items (c.args.e % 256) [] =
+    c.pairs.ensures ∙ c.index-shelf.ensures ∙ get_or-default c.self.inside.sieve.shelves.items (c.args.e % 256) c.index-shelf.result.now [] (omega (arith, i.sieve_is.upto.shelves_are)) in
+    record {
+      stage = i.stage;
+      listed_width = i.listed_width;
+      indexed = i.indexed;
+      waiting_width = i.waiting_width;
+      waited_inside = i.waited_inside;
+      waiting_most = i.waiting_most;
+      used_is = i.used_is;
+      plus_classes = i.plus_classes;
+      minus_classes = i.minus_classes;
+      plus_ids = i.plus_ids;
+      minus_ids = i.minus_ids;
+      sieve_is = i.sieve_is;
+      following_is = i.following_is;
+      counted_is = i.counted_is;
+      ahead_is = λ t. subst (λ (n : ℕ). IsOpen (value_of c.self.inside.system c.self.inside.number c.self.inside.norm c.self.inside.before c.self.inside.listed.rows (drop c.self.inside.waited c.self.inside.waiting.rows)) n c.in_ok-opened.opened.pairs.items) (sym c.in_ok-opened.ensures.norm)
+          (opened_is_open (value_of c.self.inside.system c.self.inside.number c.self.inside.norm c.self.inside.before c.self.inside.listed.rows (drop c.self.inside.waited c.self.inside.waiting.rows)) c.self.inside.plus.items c.self.inside.minus.items c.args.e
+          i.plus_classes i.minus_classes c.self.inside.sieve c.pairs.result.now c.in_ok-opened.opened.pairs.items i.stage i.sieve_is rows above here a c.in_ok-opened.ensures.ascending);
+    }

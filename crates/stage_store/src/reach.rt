@@ -1,0 +1,120 @@
+//! How far the last entry of a partner's may be from a row's.
+//!
+//! Where a listed row is below a row f in all columns but the last, and its last entry t has the sign against f's, the
+//! sum of f and a partner whose last entry is larger than f's by |t| or more has that row below it. So |t| is a reach of
+//! f: it bounds the partners that are to be looked at. Any such row will do; the one with the least |t| serves most.
+
+ghost use Rattle.std.specs.Prelude.{◌≡◌, ◌+◌, ◌<◌, ◌≤◌, List, ℤ, length, IfSome};
+ghost use Rattle.stage_store.specs.Found.{IsReduced};
+ghost use Rattle.stage_store.specs.Indexed.{HoldsRows};
+ghost use Rattle.std.specs.List.{Contains};
+ghost use Rattle.stage_store.specs.Reaches.{entry_against, with_reach, IsReachOr};
+
+use int_vector::{Visits, below};
+use reduce_tree::Tree;
+use row_pool::{Pool, RowId};
+
+/// How often a search for a smaller reach is made.
+const ROUNDS: u32 = 72;
+
+/// The entry with a reach as its absolute value, and the sign against another's.
+fn entry_against(entry: i64, reach: u64) -> i64
+    requires { reach ≤ 9223372036854775807 }
+    ensures { result ≡ entry_against entry reach }
+{
+    if entry > 0 {
+        -(reach as i64)
+    } else {
+        reach as i64
+    }
+}
+
+/// A row with a reach in place of its last entry.
+pub fn fill_probe(row: &[i64], reach: u64, probe: &mut [i64])
+    requires reach { reach ≤ 9223372036854775807 }
+    requires lengths { length row.now ≡ length probe.old }
+    requires some { 0 < length row.now }
+    ensures { probe.new ≡ with_reach row.now reach }
+{
+    let width = row.len() - 1;
+    probe.copy_from_slice(row);
+    probe[width] = entry_against(row[width], reach);
+}
+
+/// A listed row that is below a vector.
+pub fn find_listed(listed: &Pool, tree: &Tree, z: &[i64]) -> Option<RowId>
+    requires indexed { HoldsRows tree.now listed.now }
+    requires width { length z.now ≡ listed.now.width }
+    ensures { IfSome result (λ id. (id.0 < length listed.now.rows) × IsReduced listed.now.rows z.now) }
+{
+    tree.find_below(listed, z, &mut Visits { count: 0 })
+}
+
+/// The absolute value of an entry, and 2^63-1 where it is larger.
+fn size_at(row: &[i64], column: usize) -> u64
+    requires { column < length row.now }
+    ensures { result ≤ 9223372036854775807 }
+{
+    row[column].unsigned_abs().min(9223372036854775807)
+}
+
+/// The reach of a row that another listed row shows, where it is less than this one.
+fn shown_reach(other: &[i64], row: &[i64], reach: u64, probe: &mut [i64]) -> u64
+    requires reach { reach ≤ 9223372036854775807 }
+    requires lengths { length row.now ≡ length probe.old }
+    requires some { 0 < length row.now }
+    requires other { length other.now ≡ length row.now }
+    ensures probe { length probe.new ≡ length probe.old }
+    ensures most { result ≤ reach }
+    ensures reach { (listed : List (List ℤ)) → Contains listed other.now → IsReachOr listed row.now reach → IsReachOr listed row.now result }
+{
+    let least = size_at(other, row.len() - 1).min(reach);
+    fill_probe(row, least, probe);
+    if below(other, probe) { least } else { reach }
+}
+
+/// A reach of a row that is at most this one, where a listed row shows it, and else 0. `probe` is room for a row.
+fn probe_reach(listed: &Pool, tree: &Tree, row: &[i64], reach: u64, probe: &mut [i64]) -> u64
+    requires indexed { HoldsRows tree.now listed.now }
+    requires row { length row.now ≡ listed.now.width }
+    requires some { 0 < listed.now.width }
+    requires probe { length probe.old ≡ listed.now.width }
+    requires reach { reach ≤ 9223372036854775807 }
+    ensures probe { length probe.new ≡ length probe.old }
+    ensures most { result ≤ reach }
+    ensures reach { IsReachOr listed.now.rows row.now result }
+{
+    fill_probe(row, reach, probe);
+    match find_listed(listed, tree, probe) {
+        Some(id) => shown_reach(listed.row(id), row, reach, probe),
+        None => 0,
+    }
+}
+
+/// A reach of a row, and 0 where none was found. It is the least one where the rounds are enough.
+pub fn reach_of(listed: &Pool, tree: &Tree, row: &[i64], probe: &mut [i64]) -> u64
+    requires indexed { HoldsRows tree.now listed.now }
+    requires row { length row.now ≡ listed.now.width }
+    requires some { 0 < listed.now.width }
+    requires probe { length probe.old ≡ listed.now.width }
+    ensures probe { length probe.new ≡ length probe.old }
+    ensures reach { IsReachOr listed.now.rows row.now result }
+{
+    let mut reach = probe_reach(listed, tree, row, 9223372036854775807, probe);
+    // No reach up to `low` is found. Mostly the first is the least, so the next try is one below it.
+    let mut low = 0;
+    let mut next = reach.saturating_sub(1);
+    for _ in 0..ROUNDS {
+        if next <= low {
+            return reach;
+        }
+        let found = probe_reach(listed, tree, row, next, probe);
+        if found == 0 {
+            low = next;
+        } else {
+            reach = found;
+        }
+        next = low + reach.saturating_sub(low) / 2;
+    }
+    reach
+}

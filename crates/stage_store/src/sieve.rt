@@ -1,0 +1,639 @@
+//! The sieve: which pairs of listed rows may have an irreducible sum.
+//!
+//! A pair is sifted once, when the later of its rows is listed: the new row meets lines of bits over all rows of the
+//! other sign, 64 at a time. What is left is kept on the shelf of its norm.
+
+ghost use Rattle.std.specs.Prelude.{◌≡◌, ◌+◌, ◌-◌, ◌*◌, ◌/◌, ◌%◌, ◌<◌, ◌≤◌, ◌^◌, ◌++◌, ◌∷◌, [], ℕ, ℤ, List, length, take, drop, true, false, Bool, slice_index_or, OnOk, OnErr, IfOk, IsTrue, All, pos, ◌↔◌};
+ghost use Rattle.std.specs.Int.{bit_at};
+ghost use Rattle.std.specs.List.{AllByRecursion, Contains};
+ghost use Rattle.lift_core.specs.Systems.{LinearSystem};
+ghost use Rattle.lift_core.specs.ToolSystems.{width};
+ghost use Rattle.row_pool.specs.Rows.{InRange};
+ghost use Rattle.stage_store.specs.Indexed.{HoldsRows};
+ghost use Rattle.lift_core.specs.Stages.{stage_norm, has_positive_last, has_negative_last};
+ghost use Rattle.stage_store.specs.Classes.{row_at, rows_at, places, sign_test};
+ghost use Rattle.stage_store.specs.Lines.{AreClear, AreInside};
+ghost use Rattle.stage_store.specs.Levels.{AreTrue, BarsLine, ReachesLine};
+ghost use Rattle.stage_store.specs.Reaches.{AreFarApart, AreReaches};
+ghost use Rattle.stage_store.specs.Sieve.{IsKept, Stay, HasNoNewSum, HasNoNewSumBy, IsSiftedBy, AreSiftedBy, IsGroup, AreGroups, IsSized, AreSized, IsDead, IsTable, IsSieveTo, IsSieve, IsNewSieve, IsRoom, AreAsked, AreNormed, AreWide, pair_by};
+
+use crate::growing::has_sign;
+use crate::lines::{Lines, take_said};
+use crate::marks::{fill_bars, fill_reached};
+use crate::reach::reach_of;
+use int_vector::norm;
+use lift_core::System;
+use reduce_tree::Tree;
+use row_pool::{Pool, RowId};
+use std::alloc::{AllocError, Global};
+use std::marker::Model;
+
+/// How many shelves there are. A pair stands on the shelf whose number its norm leaves as a remainder.
+const SHELVES: usize = 256;
+
+/// A pair of listed rows by their places, the first with a last entry above 0, and its norm.
+#[derive(Clone, Copy, Drop)]
+pub struct KeptPair {
+    pub norm: u64,
+    pub first: u32,
+    pub second: u32,
+}
+
+/// Pairs on one shelf.
+#[derive(Drop)]
+pub struct Shelf {
+    pairs: Vec<KeptPair>,
+}
+
+impl Model for Shelf {
+    ghost use Rattle.std.specs.Prelude.{List};
+    ghost use Rattle.stage_store.specs.declared.sieve.KeptPair.{KeptPair};
+
+    ghost Value = { List KeptPair };
+
+    ghost view = { λ s. s.pairs.items };
+}
+
+impl Shelf {
+    /// An empty shelf.
+    pub fn new(alloc: Global) -> Shelf
+        ensures { result ≡ [] }
+    {
+        Shelf {
+            pairs: Vec::new(alloc),
+        }
+    }
+
+    /// Puts a pair there.
+    fn push(&mut self, pair: KeptPair) -> Result<(), AllocError>
+        ensures ok { OnOk result (self.new ≡ self.old ++ pair ∷ []) }
+        ensures err { OnErr result (self.new ≡ self.old) }
+    {
+        self.pairs.push(pair)?;
+        Ok(())
+    }
+
+    /// The pairs.
+    pub fn pairs(&self) -> &[KeptPair]
+        ensures { result.now ≡ self.now }
+    {
+        &self.pairs
+    }
+}
+
+/// Lines over 64 rows: for each level of each item which rows bar it, and which reach it.
+#[derive(Drop)]
+pub struct Group {
+    bars: Lines,
+    reached: Lines,
+}
+
+/// The listed rows of one sign of the last entry, by their places, and lines over each 64 of them.
+#[derive(Drop)]
+pub struct Table {
+    ids: Vec<u32>,
+    groups: Vec<Group>,
+}
+
+/// Room for what is asked of a row: from which level on it bars each item, how many levels of each it reaches, and the
+/// lines that are read for it.
+#[derive(Drop)]
+pub struct Room {
+    probe: Vec<i64>,
+    bars: Vec<u8>,
+    reached: Vec<u8>,
+    /// Where rows that bar what this one reaches have a bit.
+    bar_reads: Vec<usize>,
+    /// Where rows that reach what this one bars have a bit.
+    reach_reads: Vec<usize>,
+}
+
+/// The sieve over the first listed rows.
+#[derive(Drop)]
+pub struct Sieve {
+    /// How many rows were sifted.
+    pub rows: u32,
+    /// How far the last entry of a partner's may be from each row's, where that is known.
+    reaches: Vec<u64>,
+    plus: Table,
+    minus: Table,
+    /// The pairs that may have an irreducible sum.
+    pub shelves: Vec<Shelf>,
+}
+
+/// So many empty shelves.
+fn empty_shelves(alloc: Global) -> Result<Vec<Shelf>, AllocError>
+    ensures { IfOk result (λ shelves. length shelves.items ≡ 256) }
+{
+    let mut shelves = Vec::with_capacity(alloc, SHELVES)?;
+    for _ in 0..SHELVES {
+        shelves.push(Shelf::new(alloc))?;
+    }
+    Ok(shelves)
+}
+
+/// Puts a pair on its shelf.
+fn keep(shelves: &mut Vec<Shelf>, pair: KeptPair) -> Result<(), AllocError>
+    requires { length shelves.old.items ≡ 256 }
+    ensures count { length shelves.new.items ≡ 256 }
+    ensures stay { Stay shelves.old.items shelves.new.items }
+    ensures kept { OnOk result (IsKept shelves.new.items pair) }
+{
+    let shelf = (pair.norm % 256) as usize;
+    shelves[shelf].push(pair)
+}
+
+/// The norm of a row with its last entry.
+#[tactic(auto, using(crate::proofs::Signs::front_laws))]
+pub fn norm_of(row: &[i64], width: usize) -> u64
+    requires width { length row.now ≡ width + 1 }
+    requires small { stage_norm row.now ≤ 9223372036854775807 }
+    ensures { result ≡ stage_norm row.now }
+{
+    match norm(&row[..width]) {
+        Some(n) => n,
+        None => unreachable!(),
+    }
+}
+
+/// The pair of a row and another, where the first one's last entry is above 0 or below it.
+fn pair_of(positive: bool, norm: u64, i: u32, j: u32) -> KeptPair
+    ensures { result ≡ pair_by positive norm i j }
+{
+    if positive {
+        KeptPair {
+            norm,
+            first: i,
+            second: j,
+        }
+    } else {
+        KeptPair {
+            norm,
+            first: j,
+            second: i,
+        }
+    }
+}
+
+/// Keeps the pair of two rows.
+fn keep_rows(
+    shelves: &mut Vec<Shelf>,
+    listed: &Pool,
+    width: usize,
+    positive: bool,
+    i: u32,
+    j: u32,
+) -> Result<(), AllocError>
+    requires count { length shelves.old.items ≡ 256 }
+    requires width { listed.now.width ≡ width + 1 }
+    requires norms { AreNormed listed.now.rows }
+    requires one { i < length listed.now.rows }
+    requires two { j < length listed.now.rows }
+    ensures count { length shelves.new.items ≡ 256 }
+    ensures stay { Stay shelves.old.items shelves.new.items }
+    ensures kept { OnOk result (IsKept shelves.new.items (pair_by positive (stage_norm (row_at listed.now.rows i) + stage_norm (row_at listed.now.rows j)) i j)) }
+{
+    let one = norm_of(listed.row(RowId(i)), width);
+    let two = norm_of(listed.row(RowId(j)), width);
+    keep(shelves, pair_of(positive, one + two, i, j))
+}
+
+/// Whether a value is larger than another by a reach or more. A reach of 0 tells nothing.
+fn is_past(large: u64, small: u64, reach: u64) -> bool
+    requires { large ≤ 9223372036854775807 }
+    ensures { IsTrue result ↔ ((0 < reach) × (small + reach ≤ large)) }
+{
+    reach > 0 && large >= small && large - small >= reach
+}
+
+/// Whether the last entries of two rows, the first above 0 and the second below it, are so far apart that the sum has a
+/// listed row below it.
+fn is_far(first: &[i64], second: &[i64], width: usize, reach: u64, other_reach: u64) -> bool
+    requires first { length first.now ≡ width + 1 }
+    requires second { length second.now ≡ width + 1 }
+    requires first_range { All InRange first.now }
+    requires second_range { All InRange second.now }
+    ensures { IsTrue result → AreFarApart (slice_index_or first.now width (pos 0)) (slice_index_or second.now width (pos 0)) reach other_reach }
+{
+    let above = first[width];
+    let under = second[width];
+    if above <= 0 || under >= 0 {
+        return false;
+    }
+    let up = above.unsigned_abs();
+    let down = under.unsigned_abs();
+    is_past(down, up, reach) || is_past(up, down, other_reach)
+}
+
+/// Whether the pair of two places is known to have no irreducible sum, by the reaches of its rows.
+fn are_far(listed: &Pool, width: usize, reaches: &[u64], f: u32, g: u32) -> bool
+    requires width { listed.now.width ≡ width + 1 }
+    requires reaches { AreReaches listed.now.rows reaches.now }
+    requires count { length reaches.now ≤ length listed.now.rows }
+    requires one { f < length reaches.now }
+    requires two { g < length reaches.now }
+    ensures { (S : LinearSystem) → IsTrue result → HasNoNewSum S listed.now.rows f g }
+{
+    is_far(
+        listed.row(RowId(f)),
+        listed.row(RowId(g)),
+        width,
+        reaches[f as usize],
+        reaches[g as usize],
+    )
+}
+
+/// Whether the pair of a row and another is known to have no irreducible sum, by the reaches of the two.
+fn is_passed(listed: &Pool, width: usize, reaches: &[u64], positive: bool, i: u32, j: u32) -> bool
+    requires width { listed.now.width ≡ width + 1 }
+    requires reaches { AreReaches listed.now.rows reaches.now }
+    requires count { length reaches.now ≤ length listed.now.rows }
+    requires one { i < length reaches.now }
+    requires two { j < length reaches.now }
+    ensures { (S : LinearSystem) → IsTrue result → HasNoNewSumBy positive S listed.now.rows i j }
+{
+    if positive {
+        are_far(listed, width, reaches, i, j)
+    } else {
+        are_far(listed, width, reaches, j, i)
+    }
+}
+
+/// Sifts the pairs of a row with at most 64 others, each of which has a bit of `dead` that tells, where it is set,
+/// that the pair has no irreducible sum.
+fn sift_group(
+    shelves: &mut Vec<Shelf>,
+    system: &System,
+    listed: &Pool,
+    reaches: &[u64],
+    positive: bool,
+    i: u32,
+    others: &[u32],
+    dead: u64,
+) -> Result<(), AllocError>
+    requires count { length shelves.old.items ≡ 256 }
+    requires reaches { AreReaches listed.now.rows reaches.now }
+    requires reach_count { length reaches.now ≤ length listed.now.rows }
+    requires width { listed.now.width ≡ width system.now.equations + 1 }
+    requires norms { AreNormed listed.now.rows }
+    requires row { i < length reaches.now }
+    requires others { AllByRecursion (λ j. j < length reaches.now) others.now }
+    requires most { length others.now ≤ 64 }
+    requires dead { (k : ℕ) → k < length others.now → bit_at dead k ≡ 1 → HasNoNewSumBy positive system.now.equations listed.now.rows i (slice_index_or others.now k 0) }
+    ensures count { length shelves.new.items ≡ 256 }
+    ensures stay { Stay shelves.old.items shelves.new.items }
+    ensures sifted { OnOk result (AreSiftedBy positive system.now.equations listed.now.rows shelves.new.items i others.now) }
+{
+    // Of most groups all rows are out.
+    if dead == u64::MAX {
+        return Ok(());
+    }
+    let width = system.width() as usize;
+    for k in 0..others.len() {
+        if (dead >> k) & 1 == 1 {
+            continue;
+        }
+        if is_passed(listed, width, reaches, positive, i, others[k]) {
+            continue;
+        }
+        keep_rows(shelves, listed, width, positive, i, others[k])?;
+    }
+    Ok(())
+}
+
+impl Group {
+    /// So many lines of each kind, without a bit that is set.
+    fn new(alloc: Global, count: usize) -> Result<Group, AllocError>
+        ensures sized { IfOk result (IsSized count) }
+        ensures bars { IfOk result (λ g. AreClear g.bars) }
+        ensures reached { IfOk result (λ g. AreClear g.reached) }
+    {
+        Ok(Group {
+            bars: Lines::new(alloc, count)?,
+            reached: Lines::new(alloc, count)?,
+        })
+    }
+
+    /// The rows that make no irreducible sum with the one for which these lines are read.
+    fn dead(&self, bar_reads: &[usize], reach_reads: &[usize]) -> u64
+        requires bars { AreInside (length self.now.bars) bar_reads.now }
+        requires reached { AreInside (length self.now.reached) reach_reads.now }
+        ensures { IsDead self.now bar_reads.now reach_reads.now result }
+    {
+        self.bars.any(bar_reads) | self.reached.any(reach_reads)
+    }
+}
+
+impl Table {
+    /// A table without rows.
+    fn new(alloc: Global) -> Table
+        ensures ids { result.ids.items ≡ [] }
+        ensures groups { result.groups.items ≡ [] }
+    {
+        Table {
+            ids: Vec::new(alloc),
+            groups: Vec::new(alloc),
+        }
+    }
+
+    /// Makes room for one row more in the last group.
+    fn open_group(&mut self, alloc: Global, count: usize) -> Result<(), AllocError>
+        requires count { length self.old.groups.items ≡ (length self.old.ids.items + 63) / 64 }
+        requires sized { AreSized count self.old.groups.items }
+        ensures ids { self.new.ids ≡ self.old.ids }
+        ensures count { OnOk result (length self.new.groups.items ≡ length self.old.ids.items / 64 + 1) }
+        ensures sized { OnOk result (AreSized count self.new.groups.items) }
+        ensures groups { OnOk result ((S : LinearSystem) (listed : List (List ℤ)) → AreGroups S listed self.old.ids.items self.old.groups.items → AreGroups S listed self.old.ids.items self.new.groups.items) }
+    {
+        if self.ids.len() % 64 == 0 {
+            self.groups.push(Group::new(alloc, count)?)?;
+        }
+        Ok(())
+    }
+
+    /// Takes in a row, with what it bars and reaches.
+    fn push(&mut self, alloc: Global, i: u32, bars: &[u8], reached: &[u8]) -> Result<(), AllocError>
+        requires few { length bars.now ≤ 260 }
+        requires lengths { length bars.now ≡ length reached.now }
+        requires count { length self.old.groups.items ≡ (length self.old.ids.items + 63) / 64 }
+        requires sized { AreSized (8 * length bars.now) self.old.groups.items }
+        ensures ids { OnOk result (self.new.ids.items ≡ self.old.ids.items ++ i ∷ []) }
+        ensures count { OnOk result (length self.new.groups.items ≡ (length self.new.ids.items + 63) / 64) }
+        ensures sized { OnOk result (AreSized (8 * length bars.now) self.new.groups.items) }
+        ensures groups { OnOk result ((S : LinearSystem) (listed : List (List ℤ)) → AreGroups S listed self.old.ids.items self.old.groups.items
+            → AreTrue (BarsLine S listed (row_at listed i)) true bars.now → AreTrue (ReachesLine (row_at listed i)) false reached.now → AreGroups S listed self.new.ids.items self.new.groups.items) }
+    {
+        let place = self.ids.len();
+        self.open_group(alloc, 8 * bars.len())?;
+        self.ids.push(i)?;
+        let group = &mut self.groups[place / 64];
+        group.bars.mark(true, bars, place % 64);
+        group.reached.mark(false, reached, place % 64);
+        Ok(())
+    }
+}
+
+impl Room {
+    /// Room for what is asked of a row with so many entries before its last.
+    fn new(alloc: Global, width: usize) -> Result<Room, AllocError>
+        requires { width ≤ 129 }
+        ensures probe { IfOk result (λ r. length r.probe.items ≡ width + 1) }
+        ensures bars { IfOk result (λ r. length r.bars.items ≡ 2 * width) }
+        ensures reached { IfOk result (λ r. length r.reached.items ≡ 2 * width) }
+    {
+        Ok(Room {
+            probe: vec![in alloc; 0; width + 1]?,
+            bars: vec![in alloc; 0; 2 * width]?,
+            reached: vec![in alloc; 0; 2 * width]?,
+            bar_reads: Vec::new(alloc),
+            reach_reads: Vec::new(alloc),
+        })
+    }
+
+    /// Asks a row.
+    fn ask(&mut self, system: &System, listed: &Pool, tree: &Tree, i: u32) -> Result<(), AllocError>
+        requires indexed { HoldsRows tree.now listed.now }
+        requires width { listed.now.width ≡ width system.now.equations + 1 }
+        requires row { i < length listed.now.rows }
+        requires room { IsRoom system.now.equations self.old }
+        ensures room { IsRoom system.now.equations self.new }
+        ensures asked { OnOk result (AreAsked system.now.equations listed.now.rows (row_at listed.now.rows i) self.new) }
+    {
+        let row = listed.row(RowId(i));
+        fill_bars(system, listed, tree, row, &mut self.probe, &mut self.bars);
+        fill_reached(row, &mut self.reached);
+        take_said(false, &self.reached, &mut self.bar_reads)?;
+        take_said(true, &self.bars, &mut self.reach_reads)
+    }
+}
+
+/// Sifts the pairs of a row with the rows of the other sign that a table has.
+fn sift_row(
+    shelves: &mut Vec<Shelf>,
+    system: &System,
+    listed: &Pool,
+    reaches: &[u64],
+    positive: bool,
+    i: u32,
+    table: &Table,
+    room: &Room,
+) -> Result<(), AllocError>
+    requires count { length shelves.old.items ≡ 256 }
+    requires reaches { AreReaches listed.now.rows reaches.now }
+    requires reach_count { length reaches.now ≤ length listed.now.rows }
+    requires width { listed.now.width ≡ width system.now.equations + 1 }
+    requires norms { AreNormed listed.now.rows }
+    requires wide { AreWide (width system.now.equations + 1) listed.now.rows }
+    requires row { i < length reaches.now }
+    requires places { AllByRecursion (λ j. j < length reaches.now) table.now.ids.items }
+    requires few { length table.now.ids.items ≤ 2 ^ 21 }
+    requires groups { length table.now.groups.items ≡ (length table.now.ids.items + 63) / 64 }
+    requires sized { AreSized (16 * width system.now.equations) table.now.groups.items }
+    requires tell { AreGroups system.now.equations listed.now.rows table.now.ids.items table.now.groups.items }
+    requires asked { AreAsked system.now.equations listed.now.rows (row_at listed.now.rows i) room.now }
+    ensures count { length shelves.new.items ≡ 256 }
+    ensures stay { Stay shelves.old.items shelves.new.items }
+    ensures sifted { OnOk result (AreSiftedBy positive system.now.equations listed.now.rows shelves.new.items i table.now.ids.items) }
+{
+    for group in 0..table.groups.len() {
+        let from = 64 * group;
+        let to = table.ids.len().min(from + 64);
+        let dead = table.groups[group].dead(&room.bar_reads, &room.reach_reads);
+        let others = &table.ids[from..to];
+        sift_group(shelves, system, listed, reaches, positive, i, others, dead)?;
+    }
+    Ok(())
+}
+
+impl Sieve {
+    /// Nothing was sifted yet.
+    pub fn new(alloc: Global) -> Result<Sieve, AllocError>
+        ensures { IfOk result IsNewSieve }
+    {
+        Ok(Sieve {
+            rows: 0,
+            reaches: Vec::new(alloc),
+            plus: Table::new(alloc),
+            minus: Table::new(alloc),
+            shelves: empty_shelves(alloc)?,
+        })
+    }
+
+    /// Sifts the pairs of the rows that were listed since. After an error nothing counts as sifted.
+    pub fn sift(
+        &mut self,
+        alloc: Global,
+        system: &System,
+        listed: &Pool,
+        tree: &Tree,
+        norm: u64,
+    ) -> Result<(), AllocError>
+        requires indexed { HoldsRows tree.now listed.now }
+        requires width { listed.now.width ≡ width system.now.equations + 1 }
+        requires narrow { width system.now.equations ≤ 129 }
+        requires few { length listed.now.rows ≤ 2 ^ 21 }
+        requires norms { AreNormed listed.now.rows }
+        requires wide { AreWide (width system.now.equations + 1) listed.now.rows }
+        requires held { IsSieve system.now.equations listed.now.rows norm self.old }
+        ensures held { IsSieve system.now.equations listed.now.rows norm self.new }
+        ensures all { OnOk result (self.new.rows ≡ length listed.now.rows) }
+    {
+        match self.sift_rows(alloc, system, listed, tree, norm) {
+            Ok(()) => {
+                self.rows = listed.len();
+                Ok(())
+            }
+            Err(refused) => {
+                self.rows = 0;
+                self.reaches = Vec::new(alloc);
+                self.plus = Table::new(alloc);
+                self.minus = Table::new(alloc);
+                Err(refused)
+            }
+        }
+    }
+
+    /// Sifts the pairs of the rows that were listed since, one row after another.
+    fn sift_rows(
+        &mut self,
+        alloc: Global,
+        system: &System,
+        listed: &Pool,
+        tree: &Tree,
+        norm: u64,
+    ) -> Result<(), AllocError>
+        requires indexed { HoldsRows tree.now listed.now }
+        requires width { listed.now.width ≡ width system.now.equations + 1 }
+        requires narrow { width system.now.equations ≤ 129 }
+        requires few { length listed.now.rows ≤ 2 ^ 21 }
+        requires norms { AreNormed listed.now.rows }
+        requires wide { AreWide (width system.now.equations + 1) listed.now.rows }
+        requires within { self.old.rows ≤ length listed.now.rows }
+        requires upto { IsSieveTo system.now.equations listed.now.rows norm self.old.rows self.old }
+        ensures shelves { length self.new.shelves.items ≡ 256 }
+        ensures upto { OnOk result (IsSieveTo system.now.equations listed.now.rows norm (length listed.now.rows) self.new) }
+    {
+        let mut room = Room::new(alloc, system.width() as usize)?;
+        for i in self.rows..listed.len() {
+            self.sift_next(alloc, system, listed, tree, norm, i, &mut room)?;
+        }
+        Ok(())
+    }
+
+    /// Sifts the pairs of a row with the rows before it, and takes it into its table.
+    fn sift_next(
+        &mut self,
+        alloc: Global,
+        system: &System,
+        listed: &Pool,
+        tree: &Tree,
+        norm: u64,
+        i: u32,
+        room: &mut Room,
+    ) -> Result<(), AllocError>
+        requires indexed { HoldsRows tree.now listed.now }
+        requires width { listed.now.width ≡ width system.now.equations + 1 }
+        requires narrow { width system.now.equations ≤ 129 }
+        requires few { length listed.now.rows ≤ 2 ^ 21 }
+        requires norms { AreNormed listed.now.rows }
+        requires wide { AreWide (width system.now.equations + 1) listed.now.rows }
+        requires row { i < length listed.now.rows }
+        requires upto { IsSieveTo system.now.equations listed.now.rows norm i self.old }
+        requires room { IsRoom system.now.equations room.old }
+        ensures room { IsRoom system.now.equations room.new }
+        ensures shelves { length self.new.shelves.items ≡ 256 }
+        ensures upto { OnOk result (IsSieveTo system.now.equations listed.now.rows norm (i + 1) self.new) }
+    {
+        let width = system.width() as usize;
+        if has_sign(listed.row(RowId(i)), width, true) {
+            return self.sift_above(alloc, system, listed, tree, norm, i, room);
+        }
+        if has_sign(listed.row(RowId(i)), width, false) {
+            return self.sift_under(alloc, system, listed, tree, norm, i, room);
+        }
+        self.reaches.push(0)?;
+        Ok(())
+    }
+
+    /// Sifts the pairs of a row with last entry above 0.
+    fn sift_above(
+        &mut self,
+        alloc: Global,
+        system: &System,
+        listed: &Pool,
+        tree: &Tree,
+        norm: u64,
+        i: u32,
+        room: &mut Room,
+    ) -> Result<(), AllocError>
+        requires indexed { HoldsRows tree.now listed.now }
+        requires width { listed.now.width ≡ width system.now.equations + 1 }
+        requires narrow { width system.now.equations ≤ 129 }
+        requires few { length listed.now.rows ≤ 2 ^ 21 }
+        requires norms { AreNormed listed.now.rows }
+        requires wide { AreWide (width system.now.equations + 1) listed.now.rows }
+        requires row { i < length listed.now.rows }
+        requires sign { has_positive_last (row_at listed.now.rows i) ≡ true }
+        requires upto { IsSieveTo system.now.equations listed.now.rows norm i self.old }
+        requires room { IsRoom system.now.equations room.old }
+        ensures room { IsRoom system.now.equations room.new }
+        ensures shelves { length self.new.shelves.items ≡ 256 }
+        ensures upto { OnOk result (IsSieveTo system.now.equations listed.now.rows norm (i + 1) self.new) }
+    {
+        room.ask(system, listed, tree, i)?;
+        let reach = reach_of(listed, tree, listed.row(RowId(i)), &mut room.probe);
+        self.reaches.push(reach)?;
+        sift_row(
+            &mut self.shelves,
+            system,
+            listed,
+            &self.reaches,
+            true,
+            i,
+            &self.minus,
+            room,
+        )?;
+        self.plus.push(alloc, i, &room.bars, &room.reached)
+    }
+
+    /// Sifts the pairs of a row with last entry below 0.
+    fn sift_under(
+        &mut self,
+        alloc: Global,
+        system: &System,
+        listed: &Pool,
+        tree: &Tree,
+        norm: u64,
+        i: u32,
+        room: &mut Room,
+    ) -> Result<(), AllocError>
+        requires indexed { HoldsRows tree.now listed.now }
+        requires width { listed.now.width ≡ width system.now.equations + 1 }
+        requires narrow { width system.now.equations ≤ 129 }
+        requires few { length listed.now.rows ≤ 2 ^ 21 }
+        requires norms { AreNormed listed.now.rows }
+        requires wide { AreWide (width system.now.equations + 1) listed.now.rows }
+        requires row { i < length listed.now.rows }
+        requires sign { has_negative_last (row_at listed.now.rows i) ≡ true }
+        requires upto { IsSieveTo system.now.equations listed.now.rows norm i self.old }
+        requires room { IsRoom system.now.equations room.old }
+        ensures room { IsRoom system.now.equations room.new }
+        ensures shelves { length self.new.shelves.items ≡ 256 }
+        ensures upto { OnOk result (IsSieveTo system.now.equations listed.now.rows norm (i + 1) self.new) }
+    {
+        room.ask(system, listed, tree, i)?;
+        let reach = reach_of(listed, tree, listed.row(RowId(i)), &mut room.probe);
+        self.reaches.push(reach)?;
+        sift_row(
+            &mut self.shelves,
+            system,
+            listed,
+            &self.reaches,
+            false,
+            i,
+            &self.plus,
+            room,
+        )?;
+        self.minus.push(alloc, i, &room.bars, &room.reached)
+    }
+}
