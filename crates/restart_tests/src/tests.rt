@@ -170,38 +170,21 @@ const ONE_EQUATION: Text = (".mat", "1 2\n1 -2\n");
 
 // What the run of both equations ends in, and what it puts.
 const DONE: &str = "0 Done { solutions: 1, pairs: 2, norm_total: 3 }";
+
 const SUMMARY: &str = "1 solutions, 2 pairs\n";
+
 const SOLUTION: Text = (".hil", "1 3\n1 1 1\n");
 
 // The endings of all files that a run may leave.
 const ENDINGS: [&str; 6] = [".ckp0", ".ckp1", ".gra", ".hil", ".zhom", ".zinhom"];
 
-// A run that ends well.
-const fn done(words: &'static [&'static str], end: &'static str, out: &'static str) -> Run {
-    Run {
-        words,
-        end,
-        out,
-        err: "",
-    }
-}
-
-// A run that says why it does not.
-const fn refused(words: &'static [&'static str], end: &'static str, err: &'static str) -> Run {
-    Run {
-        words,
-        end,
-        out: "",
-        err,
-    }
-}
-
 // The run that is stopped by its budget of pairs, with a backup of each norm.
-const STOPPED: Run = refused(
-    &["--pairs=1", "--backup=1", "P"],
-    "4 Pairs { stage: 2, norm: 3, needed: 2 }",
-    "hilbert: pair budget spent at equation 2, norm 3: 2 pairs needed\n",
-);
+const STOPPED: Run = Run {
+    words: &["--pairs=1", "--backup=1", "P"],
+    end: "4 Pairs { stage: 2, norm: 3, needed: 2 }",
+    out: "",
+    err: "hilbert: pair budget spent at equation 2, norm 3: 2 pairs needed\n",
+};
 
 // Runs of one system of `hilbert`.
 const fn hilbert(input: &'static [Text], runs: &'static [Run], files: &'static [Text]) -> Case {
@@ -249,7 +232,7 @@ fn words_of(alloc: Global, words: &[&str]) -> Result<Words, Fail> {
 }
 
 // What a run over the folder comes to.
-fn run<R: Threads + Sync>(
+fn run_once<R: Threads + Sync>(
     rt: &R,
     alloc: Global,
     tool: Tool,
@@ -286,7 +269,7 @@ fn outcome<R: Threads + Sync>(rt: &R, alloc: Global, case: &Case) -> Result<Stri
     let mut folder = folder_of(alloc, case.input, case.failing)?;
     let mut shown = String::new(alloc);
     for each in case.runs {
-        shown.push_str(run(rt, alloc, case.tool, each.words, &mut folder)?.as_str())?;
+        shown.push_str(run_once(rt, alloc, case.tool, each.words, &mut folder)?.as_str())?;
     }
     shown.push_str(files_in(alloc, &folder)?.as_str())?;
     Ok(shown)
@@ -310,11 +293,7 @@ fn wanted(alloc: Global, case: &Case) -> Result<String, Fail> {
 }
 
 // What came and what was to come, for each case where these differ.
-fn differences<R: Threads + Sync>(
-    rt: &R,
-    alloc: Global,
-    cases: &[Case],
-) -> Result<String, Fail> {
+fn differences<R: Threads + Sync>(rt: &R, alloc: Global, cases: &[Case]) -> Result<String, Fail> {
     let mut shown = String::new(alloc);
     for case in cases {
         let came = outcome(rt, alloc, case)?;
@@ -337,40 +316,63 @@ fn a_stopped_run_goes_on(rt: HostRuntime) -> Result<(), Fail> {
     let cases = [
         hilbert(
             &[TWO_EQUATIONS],
-            &[STOPPED, done(&["--resume", "--pairs=2", "P"], DONE, SUMMARY)],
+            &[
+                STOPPED,
+                Run {
+                    words: &["--resume", "--pairs=2", "P"],
+                    end: DONE,
+                    out: SUMMARY,
+                    err: "",
+                },
+            ],
             &[(".ckp0", EARLIER), (".ckp1", LATER), SOLUTION],
         ),
         hilbert(
             &[TWO_EQUATIONS, (".ckp0", EARLIER), (".ckp1", "restart 2\n")],
             &[
-                refused(
-                    &["-r", "--pairs=1", "--backup=1", "P"],
-                    "4 Pairs { stage: 2, norm: 3, needed: 2 }",
-                    "hilbert: pair budget spent at equation 2, norm 3: 2 pairs needed\n",
-                ),
-                done(&["-r", "P"], DONE, SUMMARY),
+                Run {
+                    words: &["-r", "--pairs=1", "--backup=1", "P"],
+                    end: "4 Pairs { stage: 2, norm: 3, needed: 2 }",
+                    out: "",
+                    err: "hilbert: pair budget spent at equation 2, norm 3: 2 pairs needed\n",
+                },
+                Run {
+                    words: &["-r", "P"],
+                    end: DONE,
+                    out: SUMMARY,
+                    err: "",
+                },
             ],
             &[(".ckp0", EARLIER), (".ckp1", LATER), SOLUTION],
         ),
         hilbert(
             &[TWO_EQUATIONS, (".ckp0", LATER), (".ckp1", EARLIER)],
-            &[done(&["-rq", "P"], DONE, "")],
+            &[Run {
+                words: &["-rq", "P"],
+                end: DONE,
+                out: "",
+                err: "",
+            }],
             &[(".ckp0", LATER), (".ckp1", EARLIER), SOLUTION],
         ),
         hilbert(
             &[TWO_EQUATIONS, (".ckp0", FIRST_VERSION)],
-            &[done(&["-r", "P"], DONE, SUMMARY)],
+            &[Run {
+                words: &["-r", "P"],
+                end: DONE,
+                out: SUMMARY,
+                err: "",
+            }],
             &[(".ckp0", FIRST_VERSION), SOLUTION],
         ),
         hilbert(
             &[ONE_EQUATION, (".cap", "1 2\n1 *\n")],
-            &[
-                done(
-                    &["-q", "--backup=4", "P"],
-                    "0 Done { solutions: 0, pairs: 2, norm_total: 0 }",
-                    "",
-                ),
-            ],
+            &[Run {
+                words: &["-q", "--backup=4", "P"],
+                end: "0 Done { solutions: 0, pairs: 2, norm_total: 0 }",
+                out: "",
+                err: "",
+            }],
             &[(".hil", "0 2\n")],
         ),
     ];
@@ -384,38 +386,42 @@ fn a_file_that_is_refused_has_its_cause(rt: HostRuntime) -> Result<(), Fail> {
     let cases = [
         hilbert(
             &[ONE_EQUATION],
-            &[refused(
-                &["--resume", "P"],
-                "2 BadRestart(Missing, Missing)",
-                "hilbert: P.ckp0: no such file; P.ckp1: no such file\n",
-            )],
+            &[Run {
+                words: &["--resume", "P"],
+                end: "2 BadRestart(Missing, Missing)",
+                out: "",
+                err: "hilbert: P.ckp0: no such file; P.ckp1: no such file\n",
+            }],
             &[],
         ),
         hilbert(
             &[TWO_EQUATIONS, (".ckp0", "restart 2\n"), (".ckp1", "")],
-            &[refused(
-                &["--resume", "P"],
-                "2 BadRestart(Digest, Digest)",
-                "hilbert: P.ckp0: digest differs; P.ckp1: digest differs\n",
-            )],
+            &[Run {
+                words: &["--resume", "P"],
+                end: "2 BadRestart(Digest, Digest)",
+                out: "",
+                err: "hilbert: P.ckp0: digest differs; P.ckp1: digest differs\n",
+            }],
             &[(".ckp0", "restart 2\n"), (".ckp1", "")],
         ),
         hilbert(
             &[ONE_EQUATION, (".ckp0", FEWER_PAIRS), (".ckp1", LATER)],
-            &[refused(
-                &["--resume", "P"],
-                "2 BadRestart(Used, OtherSystem { line: 3 })",
-                "hilbert: P.ckp0: used pairs too few; P.ckp1: line 3: other system\n",
-            )],
+            &[Run {
+                words: &["--resume", "P"],
+                end: "2 BadRestart(Used, OtherSystem { line: 3 })",
+                out: "",
+                err: "hilbert: P.ckp0: used pairs too few; P.ckp1: line 3: other system\n",
+            }],
             &[(".ckp0", FEWER_PAIRS), (".ckp1", LATER)],
         ),
         hilbert(
             &[(".mat", "1 2\n1 -1\n"), (".ckp1", OUT_OF_ORDER)],
-            &[refused(
-                &["--resume", "P"],
-                "2 BadRestart(Missing, Order { line: 10 })",
-                "hilbert: P.ckp0: no such file; P.ckp1: line 10: out of order\n",
-            )],
+            &[Run {
+                words: &["--resume", "P"],
+                end: "2 BadRestart(Missing, Order { line: 10 })",
+                out: "",
+                err: "hilbert: P.ckp0: no such file; P.ckp1: line 10: out of order\n",
+            }],
             &[(".ckp1", OUT_OF_ORDER)],
         ),
     ];
@@ -430,29 +436,32 @@ fn a_forged_file_is_walked_on(rt: HostRuntime) -> Result<(), Fail> {
     let cases = [
         hilbert(
             &[(".mat", "1 2\n1 -1\n"), (".ckp0", FORGED)],
-            &[refused(
-                &["--resume", "P"],
-                "3 Overflow { stage: 1, place: Norm(9223372036854775808) }",
-                "hilbert: overflow at equation 1: norm 9223372036854775808\n",
-            )],
+            &[Run {
+                words: &["--resume", "P"],
+                end: "3 Overflow { stage: 1, place: Norm(9223372036854775808) }",
+                out: "",
+                err: "hilbert: overflow at equation 1: norm 9223372036854775808\n",
+            }],
             &[(".ckp0", FORGED)],
         ),
         hilbert(
             &[ONE_EQUATION, (".ckp0", WITHOUT_A_ROW)],
-            &[done(
-                &["--resume", "P"],
-                "0 Done { solutions: 0, pairs: 1, norm_total: 0 }",
-                "0 solutions, 1 pairs\n",
-            )],
+            &[Run {
+                words: &["--resume", "P"],
+                end: "0 Done { solutions: 0, pairs: 1, norm_total: 0 }",
+                out: "0 solutions, 1 pairs\n",
+                err: "",
+            }],
             &[(".ckp0", WITHOUT_A_ROW), (".hil", "0 2\n")],
         ),
         hilbert(
             &[ONE_EQUATION, (".ckp1", MORE_PAIRS)],
-            &[done(
-                &["--resume", "P"],
-                "0 Done { solutions: 1, pairs: 6, norm_total: 3 }",
-                "1 solutions, 6 pairs\n",
-            )],
+            &[Run {
+                words: &["--resume", "P"],
+                end: "0 Done { solutions: 1, pairs: 6, norm_total: 3 }",
+                out: "1 solutions, 6 pairs\n",
+                err: "",
+            }],
             &[(".ckp1", MORE_PAIRS), (".hil", "1 2\n2 1\n")],
         ),
     ];
