@@ -45,10 +45,23 @@ module _ (s : StageValue) (h : IsStage s) where
       (each_contained (IsStageRow s.system.equations s.number) s.listed z h.listed_rows c).small)
 
 -- ---- the fields of a stage of given lists, of which nothing is sifted or known yet
-module _ (S : ToolSystem) (k d used pairs : ℕ) (listed waiting : PoolValue) (tree : TreeValue)
-    (plus minus : List ClassValue) (sieve : Sieve) (following : Following) (counted : Counted)
-    (ahead : Opened) where
-  pub holds_rebuilt : IsStage (stage_of S k d used listed.rows waiting.rows)
+module _ (S : ToolSystem) (k d used pairs : ℕ) (tree : TreeValue) (plus minus : List ClassValue)
+    (sieve : Sieve) (following : Following) (counted : Counted) (ahead : Opened) where
+  abbrev pub AreFields : PoolValue → PoolValue → Type 0
+  AreFields listed waiting =
+      Holds
+      (record {
+        system = S;
+        number = k;
+        norm = d;
+        before = used - pairs;
+        listed = listed.rows;
+        waiting = waiting.rows;
+      })
+      listed tree waiting 0 used plus minus sieve following counted ahead
+
+  pub fields_hold : (listed waiting : PoolValue)
+      → IsStage (stage_of S k d used listed.rows waiting.rows)
       → listed.width ≡ width S.equations + 1 → waiting.width ≡ width S.equations + 1
       → pairs ≡ pairs_within listed.rows d → pairs_within listed.rows d ≤ used
       → HoldsRows tree listed
@@ -56,11 +69,9 @@ module _ (S : ToolSystem) (k d used pairs : ℕ) (listed waiting : PoolValue) (t
       → AreClasses listed.rows has_negative_last minus
       → AscendWithin plus → AscendWithin minus → IsNewSieve sieve
       → following.known ≡ false → counted.known ≡ false → ahead.known ≡ false
-      → Holds (record { system = S; number = k; norm = d; before = used - pairs; listed = listed.rows; waiting = waiting.rows })
-          listed tree waiting 0 used plus minus sieve following counted ahead
-  holds_rebuilt stage wide wait is enough rows p m i j v f o a = record {
-    stage = subst (λ n. IsStage (record { system = S; number = k; norm = d; before = used - n; listed = listed.rows; waiting = waiting.rows }))
-        (sym is) stage;
+      → AreFields listed waiting
+  fields_hold listed waiting stage wide wait is enough rows p m i j v f o a = record {
+    stage = subst IsStage (ap with_before (sym is)) stage;
     listed_width = wide;
     indexed = rows;
     waiting_width = wait;
@@ -76,3 +87,13 @@ module _ (S : ToolSystem) (k d used pairs : ℕ) (listed waiting : PoolValue) (t
     counted_is = λ t. absurd (unknown counted.known o t);
     ahead_is = λ t. absurd (unknown ahead.known a t);
   }
+    where
+      with_before : ℕ → StageValue
+      with_before n = record {
+        system = S;
+        number = k;
+        norm = d;
+        before = used - n;
+        listed = listed.rows;
+        waiting = waiting.rows;
+      }
