@@ -220,6 +220,7 @@ fn bar_level(
     row: &[i64],
     column: usize,
     positive: bool,
+    near: bool,
     probe: &mut [i64],
 ) -> u8
     requires indexed { HoldsRows tree.now listed.now }
@@ -234,8 +235,8 @@ fn bar_level(
     if is_against(row[column], positive) || is_full(system.cap(column as u32 + 1), row[column]) {
         return 0;
     }
-    // No row has an entry there, so nothing is gained by a search.
-    if is_one_sided(system.sign(column as u32 + 1), positive) {
+    // Where no row has an entry, nothing is gained by a search.
+    if !near || is_one_sided(system.sign(column as u32 + 1), positive) {
         return LEVELS;
     }
     near_level(listed, tree, row, column, positive, probe)
@@ -259,12 +260,13 @@ fn reach_level(row: &[i64], column: usize, positive: bool) -> u8
     LEVELS
 }
 
-/// Writes from which level on a row bars each item.
+/// Writes from which level on a row bars each item; rows near it are looked for only where that is wanted.
 pub fn fill_bars(
     system: &System,
     listed: &Pool,
     tree: &Tree,
     row: &[i64],
+    near: bool,
     probe: &mut [i64],
     bars: &mut [u8],
 )
@@ -278,7 +280,7 @@ pub fn fill_bars(
     ensures bars { AreTrue (BarsLine system.now.equations listed.now.rows row.now) true bars.new }
 {
     for k in 0..bars.len() {
-        bars[k] = bar_level(system, listed, tree, row, k / 2, k % 2 == 0, probe);
+        bars[k] = bar_level(system, listed, tree, row, k / 2, k % 2 == 0, near, probe);
     }
 }
 

@@ -336,6 +336,22 @@ impl Table {
         }
     }
 
+    /// How many rows have no bit in the lines that are read.
+    fn left(&self, count: usize, bar_reads: &[usize], reach_reads: &[usize]) -> u64
+        requires sized { AreSized count self.now.groups.items }
+        requires bars { AreInside count bar_reads.now }
+        requires reached { AreInside count reach_reads.now }
+    {
+        let mut left: u64 = 0;
+        for group in 0..self.groups.len() {
+            let dead = self.groups[group].dead(bar_reads, reach_reads);
+            left = left.saturating_add(u64::from(dead.count_zeros()));
+        }
+        // The last group may have fewer rows than bits.
+        let bits = self.groups.len().saturating_mul(64);
+        left.saturating_sub(bits.saturating_sub(self.ids.len()) as u64)
+    }
+
     /// Makes room for one row more in the last group.
     fn open_group(&mut self, alloc: Global, count: usize) -> Result<(), AllocError>
         requires count { length self.old.groups.items ≡ (length self.old.ids.items + 63) / 64 }
@@ -390,8 +406,42 @@ impl Room {
         })
     }
 
-    /// Asks a row.
-    fn ask(&mut self, system: &System, listed: &Pool, tree: &Tree, i: u32) -> Result<(), AllocError>
+    /// Asks a row that is to be sifted with a table. Rows near it are looked for only where more pairs are left without
+    /// them than the row has entries: each search takes about as long as a pair.
+    fn ask(
+        &mut self,
+        system: &System,
+        listed: &Pool,
+        tree: &Tree,
+        i: u32,
+        table: &Table,
+    ) -> Result<(), AllocError>
+        requires indexed { HoldsRows tree.now listed.now }
+        requires width { listed.now.width ≡ width system.now.equations + 1 }
+        requires row { i < length listed.now.rows }
+        requires sized { AreSized (16 * width system.now.equations) table.now.groups.items }
+        requires room { IsRoom system.now.equations self.old }
+        ensures room { IsRoom system.now.equations self.new }
+        ensures asked { OnOk result (AreAsked system.now.equations listed.now.rows (row_at listed.now.rows i) self.new) }
+    {
+        self.ask_row(system, listed, tree, i, false)?;
+        let width = system.width();
+        let left = table.left(16 * width as usize, &self.bar_reads, &self.reach_reads);
+        if left <= u64::from(width) {
+            return Ok(());
+        }
+        self.ask_row(system, listed, tree, i, true)
+    }
+
+    /// Asks a row, and for the rows near it where that is wanted.
+    fn ask_row(
+        &mut self,
+        system: &System,
+        listed: &Pool,
+        tree: &Tree,
+        i: u32,
+        near: bool,
+    ) -> Result<(), AllocError>
         requires indexed { HoldsRows tree.now listed.now }
         requires width { listed.now.width ≡ width system.now.equations + 1 }
         requires row { i < length listed.now.rows }
@@ -400,7 +450,15 @@ impl Room {
         ensures asked { OnOk result (AreAsked system.now.equations listed.now.rows (row_at listed.now.rows i) self.new) }
     {
         let row = listed.row(RowId(i));
-        fill_bars(system, listed, tree, row, &mut self.probe, &mut self.bars);
+        fill_bars(
+            system,
+            listed,
+            tree,
+            row,
+            near,
+            &mut self.probe,
+            &mut self.bars,
+        );
         fill_reached(row, &mut self.reached);
         take_said(false, &self.reached, &mut self.bar_reads)?;
         take_said(true, &self.bars, &mut self.reach_reads)
@@ -580,7 +638,7 @@ impl Sieve {
         ensures shelves { length self.new.shelves.items ≡ 256 }
         ensures upto { OnOk result (IsSieveTo system.now.equations listed.now.rows norm (i + 1) self.new) }
     {
-        room.ask(system, listed, tree, i)?;
+        room.ask(system, listed, tree, i, &self.minus)?;
         let reach = reach_of(listed, tree, listed.row(RowId(i)), &mut room.probe);
         self.reaches.push(reach)?;
         sift_row(
@@ -621,7 +679,7 @@ impl Sieve {
         ensures shelves { length self.new.shelves.items ≡ 256 }
         ensures upto { OnOk result (IsSieveTo system.now.equations listed.now.rows norm (i + 1) self.new) }
     {
-        room.ask(system, listed, tree, i)?;
+        room.ask(system, listed, tree, i, &self.plus)?;
         let reach = reach_of(listed, tree, listed.row(RowId(i)), &mut room.probe);
         self.reaches.push(reach)?;
         sift_row(

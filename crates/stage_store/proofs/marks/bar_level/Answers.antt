@@ -11,12 +11,6 @@ overflow_cast-column c = omega (arith, c.requires.column, c.keeps.ensures.most_w
 pub overflow_add-column : goal.overflow_add-column
 overflow_add-column c = omega (arith, c.requires.column, c.keeps.ensures.most_width)
 
-pub overflow_cast-column-2 : goal.overflow_cast-column-2
-overflow_cast-column-2 c = omega (arith, c.requires.column, c.keeps.ensures.most_width)
-
-pub overflow_add-column-2 : goal.overflow_add-column-2
-overflow_add-column-2 c = omega (arith, c.requires.column, c.keeps.ensures.most_width)
-
 pub returns-then-is_against-clause-bars : goal.returns-then-is_against-clause-bars
 returns-then-is_against-clause-bars c =
     let f : SFits w64 (get_or c.args.row.now c.args.column (pos 0)) = search rules in
