@@ -99,11 +99,10 @@ pub record IsCount (word : List ℕ) (most : ℕ) (line : List ℕ) (n : ℕ) : 
   pub written : line ≡ counts_line word (n ∷ [])
 
 -- the line of a word and three counts that are at most `most`
-pub record AreCounts (word : List ℕ) (most : ℕ) (line : List ℕ) (a b c : ℕ) : Type 0 where
-  pub first : a ≤ most
-  pub second : b ≤ most
-  pub third : c ≤ most
-  pub written : line ≡ counts_line word (a ∷ b ∷ c ∷ [])
+pub record AreCounts (word : List ℕ) (most : ℕ) (line : List ℕ) (ns : List ℕ) : Type 0 where
+  pub three : length ns ≡ 3
+  pub within : AllByRecursion (λ n. n ≤ most) ns
+  pub written : line ≡ counts_line word ns
 
 -- the line of numbers in range, one for each column and one for the product
 pub record IsRow (S : ToolSystem) (line : List ℕ) (z : List ℤ) : Type 0 where
@@ -146,11 +145,16 @@ Follows S v (WaitingRow left) p line next =
     × (next ≡ at v (waiting_due (left - 1)) (with_waiting z p))
 Follows S v LastLine p line next = ⊥
 
--- no row stands in the line, or one that is none of the stage, or one that is out of order
-abbrev pub HasRowFault : ToolSystem → ℕ → (List ℤ → Type 0) → List ℕ → ℕ → RestartFault → Type 0
-HasRowFault S k IsNext line l f =
+-- no row stands in the line, or one that is none of stage k
+abbrev pub HasNoStageRow : ToolSystem → ℕ → List ℕ → ℕ → RestartFault → Type 0
+HasNoStageRow S k line l f =
     ((f ≡ Text l) × ((z : List ℤ) → IsRow S line z → ⊥))
     ⊎ ((f ≡ NotSolution l) × ((z : List ℤ) × IsRow S line z × (IsStageRow S.equations k z → ⊥)))
+
+-- no row of stage k stands in the line, or one that is out of order
+abbrev pub HasRowFault : ToolSystem → ℕ → (List ℤ → Type 0) → List ℕ → ℕ → RestartFault → Type 0
+HasRowFault S k IsNext line l f =
+    HasNoStageRow S k line l f
     ⊎ ((f ≡ Order l) × ((z : List ℤ) × IsRow S line z × IsStageRow S.equations k z × (IsNext z → ⊥)))
 
 -- line l is wrong, and this is its first fault
@@ -168,10 +172,9 @@ HasFault S v ListedLine p line l f =
     (f ≡ Text l) × ((n : ℕ) → IsCount (codes "listed ") (2 ^ 21) line n → ⊥)
 HasFault S v (ListedRow left) p line l f = HasRowFault S p.number (IsNextListed p) line l f
 HasFault S v ClassesLine p line l f =
-    ((f ≡ Text l) × ((a b c : ℕ) → AreCounts (codes "classes ") (2 ^ 21) line a b c → ⊥))
+    ((f ≡ Text l) × ((ns : List ℕ) → AreCounts (codes "classes ") (2 ^ 21) line ns → ⊥))
     ⊎ ((f ≡ Classes l)
-        × ((a : ℕ) × (b : ℕ) × (c : ℕ) × AreCounts (codes "classes ") (2 ^ 21) line a b c
-            × ((a ∷ b ∷ c ∷ []) ≢ class_counts p.listed)))
+        × ((ns : List ℕ) × AreCounts (codes "classes ") (2 ^ 21) line ns × (ns ≢ class_counts p.listed)))
 HasFault S v WaitingLine p line l f =
     (f ≡ Text l) × ((n : ℕ) → IsCount (codes "waiting ") (2 ^ 21) line n → ⊥)
 HasFault S v (WaitingRow left) p line l f = HasRowFault S p.number (IsNextWaiting p) line l f
@@ -188,7 +191,7 @@ pub data Reads (S : ToolSystem) : Cursor → ℕ → List ℕ → Result Progres
       → Reads S next (l + 1) rest out
       → Reads S c l bytes out
   reads_fault :
-      {c : Cursor} {l : ℕ} {bytes line rest : List ℕ} {f : RestartFault}
+      {c : Cursor} {l : ℕ} {bytes line : List ℕ} {f : RestartFault} (rest : List ℕ)
       → IsLine line
       → bytes ≡ line ++ rest
       → HasFault S c.version c.due c.so_far line l f

@@ -5,11 +5,17 @@
 #![tactic(auto)]
 
 mod classes;
+mod counts;
+mod drafts;
 mod dues;
 mod ends;
 mod lines;
 mod numbers;
+mod pulling;
 mod reading;
+mod rows;
+mod sealing;
+mod windows;
 mod writing;
 
 pub use dues::Due;
