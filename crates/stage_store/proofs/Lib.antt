@@ -22,3 +22,7 @@ pub mod Gains
 pub mod Skipped
 pub mod NumberedSums
 pub mod Sorting
+pub mod CountedPairs
+pub mod ClassesByNorm
+pub mod Rebuilt
+pub mod Sound

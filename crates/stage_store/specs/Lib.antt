@@ -20,3 +20,6 @@ pub mod Published
 pub mod Found
 pub mod Numbered
 pub mod Sorting
+pub mod CountedPairs
+pub mod Rebuilt
+pub mod Sound

@@ -170,7 +170,7 @@ pub fn list_rows(listed: &mut Pool, tree: &mut Tree, rows: &Pool) -> Result<(), 
 
 /// Whether the last entry is above 0, or below it.
 #[tactic(auto, using(crate::proofs::Signs::sign_laws))]
-fn has_sign(row: &[i64], width: usize, positive: bool) -> bool
+pub fn has_sign(row: &[i64], width: usize, positive: bool) -> bool
     requires { length row.now ≡ width + 1 }
     ensures { result ≡ sign_test positive row.now }
 {
