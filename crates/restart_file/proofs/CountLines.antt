@@ -76,7 +76,7 @@ pub place_found : (S : ToolSystem) (line counts : List ℕ) (a b : ℕ) (r : Opt
     → ((k d : ℕ) → IsPlace S k d → line ≡ is_place_line k d → counts ≡ k ∷ d ∷ [])
     → MatchOption r (IsPlace S a b → ⊥) (λ p. IsPlace S a b × ((p.0 ≡ a) × (p.1 ≡ b)))
     → MatchOption r ((k d : ℕ) → IsPlace S k d → line ≢ is_place_line k d) (λ p. IsPlace S p.0 p.1 × (line ≡ is_place_line p.0 p.1))
-unfolding first_of, second_of
+unfolding first_of second_of
 place_found S line counts a b None two is only h = λ k d place e.
     let same : (a ∷ b ∷ []) ≡ (k ∷ d ∷ []) = sym two ∙ only k d place e in
     h (subst₂ (λ x y. IsPlace S x y) (sym (ap first_of same)) (sym (ap second_of same)) place)

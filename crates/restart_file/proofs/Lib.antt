@@ -8,3 +8,4 @@ pub mod Remainders
 pub mod Seals
 pub mod CountLines
 pub mod LineByLine
+pub mod Built

@@ -1,5 +1,5 @@
 -- A file that is read in pieces: the bytes that were read and not taken, and those that were not read.
-use Rattle.std.proofs.Common.{◌≡◌, ◌≢◌, ◌<◌, ◌≤◌, ◌+◌, ◌-◌, ◌^◌, ◌⊎◌, inl, inr, ℕ, zero, suc, List, [], ◌∷◌, ◌++◌, length, take, drop, get_or, Option, Some, None, refl, sym, ap, ap₂, subst, ◌∙◌, arith, IfSome, length-append, min}
+use Rattle.std.proofs.Common.{◌≡◌, ◌≢◌, ◌<◌, ◌≤◌, ◌+◌, ◌-◌, ◌^◌, ◌⊎◌, inl, inr, ℕ, zero, suc, List, [], ◌∷◌, ◌++◌, length, take, drop, get_or, Option, Some, None, Bool, true, false, refl, sym, ap, ap₂, subst, ◌∙◌, arith, IfSome, length-append, min}
 use Rattle.std.specs.Prelude.{Result, Ok, Err, IfOk}
 use Rattle.std.specs.List.{AllByRecursion}
 use Rattle.std.proofs.lemmas.List.{length-take, length-take-le, length-drop, take_all, take_more, append-nil}
@@ -8,7 +8,7 @@ use Rattle.lift_core.proofs.Composition.{each_push}
 use Rattle.outside.specs.Files.{Files, bytes_of, ReadsFrom}
 use Rattle.restart_file.specs.declared.windows.Window.{Window}
 use Rattle.restart_file.specs.Reading.{HasNoLine, IsLine}
-use Rattle.restart_file.specs.Inside.Windows.{GivesByte, IsLeft, IsPlain, IsTaken, Tells}
+use Rattle.restart_file.specs.Inside.Windows.{GivesByte, GivesLine, IsLeft, IsPlain, IsTaken, Tells}
 
 -- ---- what a folder tells
 pub tells_same : (held now : Option Files) (name text : List ℕ) → now ≡ held → Tells held name text → Tells now name text
@@ -27,9 +27,9 @@ drop_past zero (x ∷ xs) h = absurd (omega (arith, h))
 drop_past (suc n) (x ∷ xs) h = drop_past n xs (omega (arith, h))
 
 pub drop_drop : (m n : ℕ) (xs : List ℕ) → drop n (drop m xs) ≡ drop (m + n) xs
-drop_drop zero n xs = ap (λ k. drop k xs) (omega arith)
+drop_drop zero n xs = let e : n ≡ 0 + n = omega arith in ap (λ (k : ℕ). drop k xs) e
 drop_drop (suc m) n [] = drop_past n [] (omega arith) ∙ sym (drop_past (suc m + n) [] (omega arith))
-drop_drop (suc m) n (x ∷ xs) = drop_drop m n xs ∙ ap (λ k. drop k (x ∷ xs)) (omega arith)
+drop_drop (suc m) n (x ∷ xs) = let e : suc (m + n) ≡ suc m + n = omega arith in drop_drop m n xs ∙ ap (λ (k : ℕ). drop k (x ∷ xs)) e
 
 pub take_and_drop : (n : ℕ) (xs : List ℕ) → xs ≡ take n xs ++ drop n xs
 take_and_drop zero xs = refl
@@ -83,13 +83,16 @@ module _ (text rest : List ℕ) (w v : Window) (n : ℕ) (inside : w.filled ≤ 
     short = l.short;
   }
 
-  some_room : (length text ≤ w.at) ⊎ (length v.storage.items ≡ 0) → (w.left ≡ 0) ⊎ (0 < w.left) → length text ≤ w.at
+-- nothing was read into a window from which all was taken
+module _ (text rest : List ℕ) (w : Window) (items : List ℕ) (n : ℕ) (inside : w.filled ≤ length w.storage.items) (empty : w.filled ≤ w.from)
+    (same : length items ≡ length w.storage.items) (read : ReadsFrom text w.at n items) (l : IsLeft text w rest) where
+  some_room : (length text ≤ w.at) ⊎ (length items ≡ 0) → (w.left ≡ 0) ⊎ (0 < w.left) → length text ≤ w.at
   some_room (inl h) e = h
   some_room (inr z) (inl e) = omega (arith, e, l.read)
   some_room (inr z) (inr p) = absurd (omega (arith, z, p, l.room p, same))
 
-  pub read_nothing : v.from ≡ v.filled → rest ≡ []
-  read_nothing e = all_taken text rest w inside empty l ∙ drop_past w.at text (some_room (read.stops (omega (arith, e, from, filled))) (cases_zero w.left))
+  pub read_nothing : 0 ≡ n → rest ≡ []
+  read_nothing e = all_taken text rest w inside empty l ∙ drop_past w.at text (some_room (read.stops (sym e)) (cases_zero w.left))
 
 -- ---- the next byte
 -- one byte was taken
@@ -192,3 +195,10 @@ no_line_yet text rest w line i t plain h = subst (λ xs. IsPlain xs) (take_insid
 -- all that was left was taken
 pub taken_to_end : (text rest : List ℕ) (w : Window) (taken : List ℕ) (i len : ℕ) → IsTaken text rest w taken i → i ≤ len → drop i rest ≡ [] → taken ≡ take len rest
 taken_to_end text rest w taken i len t h e = t.taken_is ∙ all_of_it i rest e ∙ sym (take_all len rest (omega (arith, h, ap length e, length-drop i rest)))
+
+-- ---- lines
+pub some_line : (text : List ℕ) (w : Window) (rest line : List ℕ) (b : Bool) → b ≡ true → GivesLine text w rest line b → IsLine line × ((others : List ℕ) × (rest ≡ line ++ others) × IsLeft text w others)
+some_line text w rest line b e h = subst (λ x. GivesLine text w rest line x) e h
+
+pub no_line : (text : List ℕ) (w : Window) (rest line : List ℕ) (b : Bool) → b ≡ false → GivesLine text w rest line b → HasNoLine rest
+no_line text w rest line b e h = subst (λ x. GivesLine text w rest line x) e h

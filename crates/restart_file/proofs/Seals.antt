@@ -32,8 +32,8 @@ behind_of (suc c) [] ys h = absurd (omega (arith, h))
 behind_of (suc c) (x ∷ xs) ys h = behind_of c xs ys (omega (arith, h))
 
 -- ---- a piece that is hashed
-module _ (text : List ℕ) (w v : Window) (done count most : ℕ) (old new : Sha256) (piece : List ℕ)
-    (ordered : w.from ≤ w.filled) (inside : w.filled ≤ length w.storage.items) (count_is : count ≡ min (w.filled - w.from) most)
+module _ (text : List ℕ) (w v : Window) (done count : ℕ) (old new : Sha256) (piece : List ℕ)
+    (ordered : w.from ≤ w.filled) (inside : w.filled ≤ length w.storage.items) (count_most : count ≤ w.filled - w.from)
     (storage : v.storage.items ≡ w.storage.items) (filled : v.filled ≡ w.filled) (from : v.from ≡ w.from + count) (at : v.at ≡ w.at) (left : v.left ≡ w.left)
     (piece_is : piece ≡ take count (drop w.from w.storage.items)) (fed : (m : List ℕ) → Holds256 old m → Holds256 new (m ++ piece))
     (l : IsLeft text w (drop done text)) (short : done ≤ length text) (held : Holds256 old (take done text)) where
@@ -44,14 +44,14 @@ module _ (text : List ℕ) (w v : Window) (done count most : ℕ) (old new : Sha
   ready_length = omega (arith, length-drop w.from (take w.filled w.storage.items), length-take-le w.filled w.storage.items inside)
 
   fits : count ≤ length (drop w.from (take w.filled w.storage.items))
-  fits = omega (arith, ready_length, count_is)
+  fits = omega (arith, ready_length, count_most)
 
   within : count ≤ length (drop done text)
   within = omega (arith, fits, ap length l.bytes, length-append (drop w.from (take w.filled w.storage.items)) (drop w.at text))
 
   piece_next : piece ≡ take count (drop done text)
   piece_next =
-      piece_is ∙ sym (inner w.from w.filled count w.storage.items (omega (arith, ordered, count_is)))
+      piece_is ∙ sym (inner w.from w.filled count w.storage.items (omega (arith, ordered, count_most)))
       ∙ sym (front_of count (drop w.from (take w.filled w.storage.items)) (drop w.at text) fits) ∙ ap (take count) (sym l.bytes)
 
   pub hashed_more : IsHashed text v new (done + count)
@@ -71,15 +71,21 @@ module _ (text : List ℕ) (w v : Window) (done count most : ℕ) (old new : Sha
     hashed = subst (λ m. Holds256 new m) (ap (λ p. take done text ++ p) piece_next ∙ sym (take-add done count text)) (fed (take done text) held);
   }
 
-  pub hashed_all : (w.from ≡ w.filled → drop done text ≡ []) → count ≡ 0 → length text ≤ done ⊎ most ≡ 0
-  hashed_all empty none = elim (cases_zero (w.filled - w.from)) [
-    | inl e ↦ inl (omega (arith, ap length (empty (omega (arith, e, ordered))), length-drop done text))
-    | inr p ↦ inr (omega (arith, p, none, count_is))
-  ]
+-- where nothing more was hashed, nothing is left, or nothing was to be hashed
+pub hashed_all : (text : List ℕ) (w : Window) (done count most : ℕ) → w.from ≤ w.filled → (0 < w.filled - w.from → count ≡ 0 → most ≡ 0) → (w.from ≡ w.filled → drop done text ≡ []) → count ≡ 0 → length text ≤ done ⊎ most ≡ 0
+hashed_all text w done count most ordered some empty none = ready_or (cases_zero (w.filled - w.from))
+  where
+    ready_or : (w.filled - w.from ≡ 0) ⊎ (0 < w.filled - w.from) → length text ≤ done ⊎ most ≡ 0
+    ready_or (inl e) = inl (omega (arith, ap length (empty (omega (arith, e, ordered))), length-drop done text))
+    ready_or (inr p) = inr (some p none)
 
 -- as many bytes as were to be hashed
 pub hashed_to : (text : List ℕ) (w : Window) (hasher : Sha256) (done to : ℕ) → done ≡ to → IsHashed text w hasher done → IsHashed text w hasher to
 hashed_to text w hasher done to e h = subst (λ n. IsHashed text w hasher n) e h
+
+pub all_hashed : (len left count n : ℕ) → left ≤ len → len ≤ n → count ≡ 0 → (n ≤ len - left) ⊎ (left ≡ 0) → (len - left) + count ≡ len
+all_hashed len left count n inside short none (inl h) = omega (arith, inside, short, none, h)
+all_hashed len left count n inside short none (inr e) = omega (arith, inside, short, none, e)
 
 -- nothing is hashed
 pub hashed_none : (text : List ℕ) (w : Window) (hasher : Sha256) → Holds256 hasher [] → IsLeft text w text → IsHashed text w hasher 0

@@ -1,6 +1,7 @@
 //! Whether the last line of a file has the digest of all bytes before it.
 
-ghost use Rattle.std.specs.Prelude.{◌≡◌, ◌≤◌, ◌<◌, ◌+◌, ◌↔◌, ◌⊎◌, ℕ, List, length, take, drop, IsTrue, IfOk};
+ghost use Rattle.std.specs.Prelude.{◌≡◌, ◌≤◌, ◌<◌, ◌+◌, ◌↔◌, ◌⊎◌, ◌++◌, ◌^◌, ℕ, List, length, take, drop, IsTrue, IfOk};
+ghost use Rattle.sha2.specs.Hashers.{Holds256};
 ghost use Rattle.sha2.specs.Sha256.{sha256};
 ghost use Rattle.outside.specs.Causes.{HasCause};
 ghost use Rattle.restart_file.specs.Reading.{IsSealed};
@@ -19,6 +20,14 @@ const LAST: u64 = 72;
 // The least length that has no digest.
 const TOO_LONG: u64 = 2_305_843_009_213_693_952;
 
+// Hashes so many bytes from a place on.
+fn hash_bytes(hasher: &mut Sha256, bytes: &[u8], from: usize, count: usize)
+    requires { from + count ≤ length bytes.now }
+    ensures { (m : List ℕ) → Holds256 hasher.old m → Holds256 hasher.new (m ++ take count (drop from bytes.now)) }
+{
+    hasher.update(&bytes[from..from + count]);
+}
+
 // Hashes some of the bytes that are left, at most so many, and gives their number.
 fn hash_piece<F: Folder>(
     window: &mut Window,
@@ -35,9 +44,8 @@ fn hash_piece<F: Folder>(
 {
     refill(window, folder, name)?;
     let count = (window.filled - window.from).min(most as usize);
-    let to = window.from + count;
-    hasher.update(&window.storage.as_slice()[window.from..to]);
-    window.from = to;
+    hash_bytes(hasher, window.storage.as_slice(), window.from, count);
+    window.from += count;
     Ok(count as u64)
 }
 
@@ -82,6 +90,7 @@ pub(crate) fn is_sealed<F: Folder>(
     ensures same { F.held folder.new ≡ F.held folder.old }
     ensures sealed { (text : List ℕ) → Tells (F.held folder.old) name.now text → size ≡ length text →
         IfOk result (λ is. IsTrue is ↔ IsSealed text) }
+    ensures short { IfOk result (λ is. IsTrue is → size < 2 ^ 61) }
     ensures cause { HasCause (F.faults folder.old) (F.faults folder.new) result }
 {
     if size < LAST {

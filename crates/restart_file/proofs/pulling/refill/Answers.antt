@@ -6,8 +6,5 @@ pub returns-clause-left : goal.returns-clause-left
 returns-clause-left g c = λ text rest t l.
     let read = c.in_ok-count.ensures.bytes text t in (
       read_left text rest c.args.window.now _ c.in_ok-count.count c.args.window.now.inside.1 (omega (arith, c.if-window.false)) c.in_ok-count.ensures.length read refl refl c.saturating_add-window.ensures c.saturating_sub-window.ensures l,
-      λ e.
-          read_nothing text rest c.args.window.now
-          (record { storage = c.read_into.new.storage; filled = c.in_ok-count.count; from = 0; at = c.saturating_add-window.result; left = c.saturating_sub-window.result; inside = (omega arith, c.in_ok-count.ensures.within) })
-          c.in_ok-count.count c.args.window.now.inside.1 (omega (arith, c.if-window.false)) c.in_ok-count.ensures.length read refl refl c.saturating_add-window.ensures c.saturating_sub-window.ensures l e,
+      read_nothing text rest c.args.window.now c.read_into.new.storage.items c.in_ok-count.count c.args.window.now.inside.1 (omega (arith, c.if-window.false)) c.in_ok-count.ensures.length read l,
     )
