@@ -7,7 +7,7 @@ use Rattle.restart_file.proofs.reading.read_line.Goals as goal
 pub returns-then-not-branch-clause-line : goal.returns-then-not-branch-clause-line
 returns-then-not-branch-clause-line g c = λ text rest t l.
     let none : c.in_ok-next_line.field-0 ≡ false = cc in
-    no_line_read _ c.args.system.now text rest c.next_line.new.window (cursor_of c.args.draft.now) (cursor_of c.args.draft.now) c.args.l c.bad_text.result c.bad_text.ensures c.requires.due
+    no_line_read ℕ c.args.system.now text rest c.next_line.new.window (cursor_of c.args.draft.now) (cursor_of c.args.draft.now) c.args.l c.bad_text.result c.bad_text.ensures c.requires.due
     (no_line text c.next_line.new.window rest c.next_line.new.line.items c.in_ok-next_line.field-0 none (c.in_ok-next_line.ensures.line text rest t l))
 
 pub returns-clause-line : goal.returns-clause-line

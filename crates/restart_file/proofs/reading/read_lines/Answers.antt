@@ -1,4 +1,4 @@
-use Rattle.std.proofs.Common.{arith, rules, refl, sym, subst, ◌∙◌, ◌≡◌, ◌≢◌, []}
+use Rattle.std.proofs.Common.{arith, rules, refl, sym, subst, ◌∙◌, ◌≡◌, ◌≢◌, ℕ, []}
 use Rattle.restart_file.specs.declared.dues.Due.TheVariants.{LastLine}
 use Rattle.restart_file.specs.Reading.{Cursor}
 use Rattle.restart_file.specs.Inside.Drafts.{IsSound, cursor_of}
@@ -23,7 +23,7 @@ pub returns-in_err-read_line-clause-to : goal.returns-in_err-read_line-clause-to
 returns-in_err-read_line-clause-to g c = λ text t e.
     let now : Tells (g.F.Folder.held c.loop-turn.folder) c.args.name.now text = tells_same (g.F.Folder.held c.args.folder.now) (g.F.Folder.held c.loop-turn.folder) c.args.name.now text c.loop-turn.invariant.same t in
     handed_lines c.args.system.now text c.from_residual-in_err-read_line.result _ c.from_residual-in_err-read_line.ensures.1
-    (way_fault c.args.system.now text c.loop-turn.window (cursor_of c.loop-turn.draft) c.loop-turn.l c.loop-turn._turn (c.loop-turn.invariant.way text t e) _ c.read_line.new.window (cursor_of c.read_line.new.draft) _ (λ rest left. c.in_err-read_line.ensures.line text rest now left))
+    (way_fault c.args.system.now text c.loop-turn.window (cursor_of c.loop-turn.draft) c.loop-turn.l c.loop-turn._turn (c.loop-turn.invariant.way text t e) ℕ c.read_line.new.window (cursor_of c.read_line.new.draft) _ (λ rest left. c.in_err-read_line.ensures.line text rest now left))
 
 pub loop-turn-preserved : goal.loop-turn-preserved
 loop-turn-preserved g c = record {
