@@ -1,18 +1,18 @@
 -- What was read of a whole text is what each stage keeps.
-use Rattle.std.proofs.Common.{◌≡◌, ◌<◌, ◌≤◌, ◌+◌, ◌-◌, ◌^◌, ℕ, List, length, true, refl, sym, ap, subst, ◌∙◌, arith}
+use Rattle.std.proofs.Common.{◌≡◌, ◌≤◌, ℕ, List, ap, ◌∙◌, arith}
 use Rattle.std.specs.Prelude.{ℤ}
 use Rattle.std.specs.List.{AllByRecursion}
 use Rattle.lift_core.specs.Systems.{ToolSystem}
 use Rattle.lift_core.specs.ToolSystems.{IsToolSystem}
-use Rattle.lift_core.specs.Stages.{pairs_within, stage_norm}
+use Rattle.lift_core.specs.Stages.{stage_norm}
 use Rattle.lift_core.proofs.Lists.{each_contained, each_from_contained}
 use Rattle.stage_store.specs.Rebuilt.{stage_of}
-use Rattle.stage_store.specs.Stage.{IsStage, IsStageRow, StageValue, used_of}
+use Rattle.stage_store.specs.Stage.{IsStage, IsStageRow, StageValue}
 use Rattle.int_vector.specs.Vectors.{largest}
 use Rattle.restart_file.specs.declared.drafts.Draft.{Draft}
-use Rattle.restart_file.specs.Texts.{Progress, progress_of}
-use Rattle.restart_file.specs.Reading.{Cursor, IsPlace}
-use Rattle.restart_file.specs.Inside.Drafts.{IsSound, cursor_of, is_placed, progress_in}
+use Rattle.restart_file.specs.Texts.{progress_of}
+use Rattle.restart_file.specs.Reading.{IsPlace}
+use Rattle.restart_file.specs.Inside.Drafts.{is_placed, progress_in}
 use Rattle.restart_file.specs.Inside.Ways.{IsWhole}
 
 pub rows_small : (S : ToolSystem) (k : ℕ) (rows : List (List ℤ)) → AllByRecursion (IsStageRow S.equations k) rows → AllByRecursion (λ z. stage_norm z ≤ largest) rows

@@ -1,6 +1,6 @@
 -- The line of a word and counts, as a line of cells.
-use Rattle.std.proofs.Common.{◌≡◌, ◌≢◌, ◌<◌, ◌≤◌, ◌+◌, ℕ, zero, suc, List, [], ◌∷◌, ◌++◌, length, take, get_or, refl, sym, ap, ap₂, subst, subst₂, ◌∙◌, arith, append_assoc, Option, Some, None, true}
-use Rattle.std.specs.Prelude.{ℤ, pos, negsuc, nat_abs, int_lt, map, decimal, codes, MatchOption}
+use Rattle.std.proofs.Common.{◌≡◌, ◌≢◌, ◌<◌, ◌≤◌, ℕ, suc, List, [], ◌∷◌, ◌++◌, length, take, get_or, refl, sym, ap, ap₂, subst₂, ◌∙◌, arith, append_assoc, Option, Some, None, true}
+use Rattle.std.specs.Prelude.{ℤ, pos, nat_abs, int_lt, map, decimal, codes, MatchOption}
 use Rattle.std.specs.List.{AllByRecursion, All}
 use Rattle.lift_core.specs.Systems.{ToolSystem}
 use Rattle.restart_file.specs.Reading.{IsPlace, is_place_line}

@@ -1,21 +1,21 @@
 -- The lines of a file one after another, and what the whole of them says.
-use Rattle.std.proofs.Common.{◌≡◌, ◌≢◌, ◌<◌, ◌≤◌, ◌+◌, ℕ, List, [], ◌∷◌, ◌++◌, length, Option, Some, None, Bool, true, false, refl, sym, ap, subst, ◌∙◌, arith, IfSome, length-append}
+use Rattle.std.proofs.Common.{◌≡◌, ◌≢◌, ◌≤◌, ◌+◌, ℕ, List, [], ◌∷◌, ◌++◌, length, Option, Some, None, refl, sym, ap, subst, ◌∙◌, arith, IfSome, length-append}
 use Rattle.std.specs.Prelude.{Result, Ok, Err, OnOk, IsErrAnd, unwrap_or}
 use Rattle.std.specs.FinMap.{get}
 use Rattle.std.specs.Option.{option_map}
-use Rattle.outside.specs.Files.{Files, bytes_of}
+use Rattle.outside.specs.Files.{Files}
 use Rattle.lift_core.specs.Systems.{ToolSystem}
 use Rattle.stage_store.specs.Stage.{StageValue}
 use Rattle.restart_file.specs.declared.drafts.Draft.{Draft}
 use Rattle.restart_file.specs.declared.dues.Due.TheVariants.{LastLine}
 use Rattle.restart_file.specs.declared.ends.RestartEnd.{RestartEnd}
 use Rattle.restart_file.specs.declared.ends.RestartEnd.TheVariants.{Bad, Failed, Memory}
-use Rattle.restart_file.specs.declared.ends.RestartFault.TheVariants.{Missing, Digest, Text}
+use Rattle.restart_file.specs.declared.ends.RestartFault.TheVariants.{Missing, Text}
 use Rattle.restart_file.specs.declared.windows.Window.{Window}
 use Rattle.restart_file.specs.Texts.{Progress}
-use Rattle.restart_file.specs.Reading.{Cursor, HasNoLine, IsLine, IsReading, IsSealed, Reads, at, reading_lines, reading_missing, reading_unsealed, reads_fault, reads_more, reads_no_line, reads_on, start}
+use Rattle.restart_file.specs.Reading.{Cursor, HasNoLine, IsLine, IsSealed, Reads, reading_lines, reading_missing, reads_fault, reads_more, reads_no_line, reads_on, start}
 use Rattle.restart_file.specs.Stored.{HasRestartCause, Restores}
-use Rattle.restart_file.specs.Inside.Drafts.{IsSound, ReadsTo, Steps, cursor_of, progress_in}
+use Rattle.restart_file.specs.Inside.Drafts.{IsSound, ReadsTo, Steps, progress_in}
 use Rattle.restart_file.specs.Inside.Ways.{Builds, IsOnTheWay, IsRead, ReadsLine}
 use Rattle.restart_file.specs.Inside.Windows.{IsLeft, Tells}
 use Rattle.restart_file.proofs.Steps.{sound_step}

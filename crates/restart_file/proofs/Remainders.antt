@@ -1,9 +1,8 @@
 -- A file that is read in pieces: the bytes that were read and not taken, and those that were not read.
 use Rattle.std.proofs.Common.{◌≡◌, ◌≢◌, ◌<◌, ◌≤◌, ◌+◌, ◌-◌, ◌^◌, ◌⊎◌, inl, inr, ℕ, zero, suc, List, [], ◌∷◌, ◌++◌, length, take, drop, get_or, Option, Some, None, Bool, true, false, refl, sym, ap, ap₂, subst, ◌∙◌, arith, IfSome, length-append, min}
-use Rattle.std.specs.Prelude.{Result, Ok, Err, IfOk}
-use Rattle.std.specs.List.{AllByRecursion}
+use Rattle.std.specs.Prelude.{Result, IfOk}
 use Rattle.std.proofs.lemmas.List.{length-take, length-take-le, length-drop, take_all, take_more, append-nil}
-use Rattle.std.proofs.Math.Seq.{drop-cons, take-add}
+use Rattle.std.proofs.Math.Seq.{drop-cons}
 use Rattle.lift_core.proofs.Composition.{each_push}
 use Rattle.outside.specs.Files.{Files, bytes_of, ReadsFrom}
 use Rattle.restart_file.specs.declared.windows.Window.{Window}

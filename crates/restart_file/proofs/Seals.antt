@@ -1,15 +1,15 @@
 -- The bytes of a file that are hashed, and its last line.
-use Rattle.std.proofs.Common.{◌≡◌, ◌≢◌, ◌<◌, ◌≤◌, ◌+◌, ◌-◌, ◌*◌, ◌^◌, ◌⊎◌, inl, inr, ℕ, zero, suc, List, [], ◌∷◌, ◌++◌, length, take, drop, refl, sym, ap, ap₂, subst, ◌∙◌, arith, length-append, min}
+use Rattle.std.proofs.Common.{◌≡◌, ◌<◌, ◌≤◌, ◌+◌, ◌-◌, ◌*◌, ◌^◌, ◌⊎◌, inl, inr, ℕ, zero, suc, List, [], ◌∷◌, ◌++◌, length, take, drop, refl, sym, ap, ap₂, subst, ◌∙◌, arith, length-append}
 use Rattle.std.specs.Prelude.{codes}
-use Rattle.std.proofs.lemmas.List.{length-take, length-take-le, length-drop, take_all, append_cancel_left}
+use Rattle.std.proofs.lemmas.List.{length-take-le, length-drop, take_all, append_cancel_left}
 use Rattle.std.proofs.Math.Seq.{take-add}
 use Rattle.sha2.specs.declared.Sha256.{Sha256}
 use Rattle.sha2.specs.Hashers.{Holds256}
 use Rattle.sha2.specs.Sha256.{sha256}
 use Rattle.sha2.proofs.Facts256.{length-sha256}
-use Rattle.hex.specs.Hex.{encode_lower, encode_with, lower_digits}
+use Rattle.hex.specs.Hex.{encode_lower, encode_with}
 use Rattle.restart_file.specs.declared.windows.Window.{Window}
-use Rattle.restart_file.specs.Texts.{digest_line, sealed}
+use Rattle.restart_file.specs.Texts.{digest_line}
 use Rattle.restart_file.specs.Reading.{IsSealed}
 use Rattle.restart_file.specs.Inside.Windows.{IsHashed, IsLeft}
 use Rattle.restart_file.proofs.Remainders.{cases_zero, drop_drop, take_and_drop, take_inside}
@@ -60,8 +60,8 @@ module _ (text : List ℕ) (w v : Window) (done count : ℕ) (old new : Sha256) 
       bytes =
           sym (drop_drop done count text) ∙ ap (drop count) l.bytes ∙ behind_of count (drop w.from (take w.filled w.storage.items)) (drop w.at text) fits
           ∙ ap₂ (λ a b. a ++ b)
-            (drop_drop w.from count (take w.filled w.storage.items) ∙ sym (ap₂ (λ i xs. drop i xs) from (ap₂ (λ j s. take j s) filled storage)))
-            (ap (λ i. drop i text) (sym at));
+          (drop_drop w.from count (take w.filled w.storage.items) ∙ sym (ap₂ (λ i xs. drop i xs) from (ap₂ (λ j s. take j s) filled storage)))
+          (ap (λ i. drop i text) (sym at));
       read = omega (arith, at, left, l.read);
       behind = omega (arith, at, filled, l.behind);
       room = λ h. subst (λ s. 0 < length s) (sym storage) (l.room (subst (λ i. 0 < i) left h));

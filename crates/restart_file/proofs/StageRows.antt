@@ -1,13 +1,13 @@
 -- When the numbers of a line are a row of a stage, and when it comes behind the rows before it.
-use Rattle.std.proofs.Common.{◌≡◌, ◌<◌, ◌≤◌, ◌+◌, ◌-◌, ◌^◌, ℕ, zero, suc, List, [], ◌∷◌, ◌++◌, length, take, get_or, refl, sym, ap, subst, ◌∙◌, arith, Ordering, Less}
-use Rattle.std.specs.Prelude.{ℤ, pos, nat_abs}
+use Rattle.std.proofs.Common.{◌≡◌, ◌<◌, ◌≤◌, ◌+◌, ◌-◌, ℕ, List, [], ◌∷◌, ◌++◌, length, take, get_or, sym, ap, subst, ◌∙◌, arith, Less}
+use Rattle.std.specs.Prelude.{ℤ, pos}
 use Rattle.std.specs.List.{AllByRecursion}
 use Rattle.std.specs.List.Sorted.{IsStrictlySortedBy}
 use Rattle.std.proofs.lemmas.List.{take_more, take_all}
 use Rattle.int_vector.specs.Vectors.{dot, norm, largest}
 use Rattle.lift_core.specs.Systems.{LinearSystem, ObeysCaps, ObeysSigns, Solves, row}
 use Rattle.lift_core.specs.ToolSystems.{width}
-use Rattle.lift_core.specs.Stages.{front, last, extend, norm_cmp, stage_norm}
+use Rattle.lift_core.specs.Stages.{front, last, norm_cmp}
 use Rattle.lift_core.proofs.Composition.{each_push, each_pushed}
 use Rattle.lift_core.proofs.Orders.{norm_cmp_total}
 use Rattle.lift_core.proofs.Stages.{front-push, last-push}
@@ -69,11 +69,10 @@ module _ (S : LinearSystem) (k : ℕ) (z : List ℤ) (w : ℕ) (w_is : w ≡ wid
 behind_last : (rows : List (List ℤ)) (y z : List ℤ) → IsStrictlySortedBy norm_cmp (rows ++ y ∷ []) → norm_cmp y z ≡ Less → IsStrictlySortedBy norm_cmp ((rows ++ y ∷ []) ++ z ∷ [])
 unfolding IsStrictlySortedBy
 behind_last [] y z s l = ((l, tt), (tt, tt))
-behind_last (x ∷ rows) y z s l =
-    (
-      each_push (λ v. norm_cmp x v ≡ Less) (rows ++ y ∷ []) z s.0 (norm_cmp_total.trans x y z (each_pushed (λ v. norm_cmp x v ≡ Less) rows y s.0).1 l),
-      behind_last rows y z s.1 l,
-    )
+behind_last (x ∷ rows) y z s l = (
+  each_push (λ v. norm_cmp x v ≡ Less) (rows ++ y ∷ []) z s.0 (norm_cmp_total.trans x y z (each_pushed (λ v. norm_cmp x v ≡ Less) rows y s.0).1 l),
+  behind_last rows y z s.1 l,
+)
 
 before_last : (rows : List (List ℤ)) (y z : List ℤ) → IsStrictlySortedBy norm_cmp ((rows ++ y ∷ []) ++ z ∷ []) → norm_cmp y z ≡ Less
 unfolding IsStrictlySortedBy

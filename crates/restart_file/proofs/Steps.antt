@@ -1,5 +1,5 @@
 -- What is true of all that was read stays true with each line that is right.
-use Rattle.std.proofs.Common.{◌≡◌, ◌<◌, ◌≤◌, ◌+◌, ◌-◌, ◌^◌, ℕ, zero, suc, List, [], ◌∷◌, ◌++◌, length, Bool, true, false, cond, refl, sym, ap, subst, ◌∙◌, arith, length-append}
+use Rattle.std.proofs.Common.{◌≡◌, ◌<◌, ◌≤◌, ◌+◌, ◌-◌, ◌^◌, ℕ, zero, suc, List, [], ◌∷◌, ◌++◌, length, Bool, true, false, cond, refl, sym, subst, arith, length-append}
 use Rattle.std.specs.Prelude.{ℤ, nat_le}
 use Rattle.std.specs.List.{AllByRecursion}
 use Rattle.std.specs.List.Sorted.{IsStrictlySortedBy}
@@ -12,7 +12,7 @@ use Rattle.restart_file.specs.declared.lines.Version.TheVariants.{First, Second}
 use Rattle.restart_file.specs.declared.dues.Due.{Due}
 use Rattle.restart_file.specs.declared.dues.Due.TheVariants.{FirstLine, SystemLine, PlaceLine, UsedLine, ListedLine, ListedRow, ClassesLine, WaitingLine, WaitingRow, LastLine}
 use Rattle.restart_file.specs.Texts.{Progress, system_lines}
-use Rattle.restart_file.specs.Reading.{Cursor, Follows, IsPlace, at, listed_due, nothing_read, start, waiting_due, with_listed, with_place, with_used, with_waiting}
+use Rattle.restart_file.specs.Reading.{Cursor, Follows, IsPlace, at, listed_due, start, waiting_due, with_listed, with_place, with_used, with_waiting}
 use Rattle.restart_file.specs.Inside.Drafts.{IsDue, IsSound, is_placed, listed_left, waiting_left}
 
 -- ---- rows that are to come

@@ -174,7 +174,7 @@ HasFault S v (ListedRow left) p line l f = HasRowFault S p.number (IsNextListed 
 HasFault S v ClassesLine p line l f =
     ((f ≡ Text l) × ((ns : List ℕ) → AreCounts (codes "classes ") (2 ^ 21) line ns → ⊥))
     ⊎ ((f ≡ Classes l)
-        × ((ns : List ℕ) × AreCounts (codes "classes ") (2 ^ 21) line ns × (ns ≢ class_counts p.listed)))
+    × ((ns : List ℕ) × AreCounts (codes "classes ") (2 ^ 21) line ns × (ns ≢ class_counts p.listed)))
 HasFault S v WaitingLine p line l f =
     (f ≡ Text l) × ((n : ℕ) → IsCount (codes "waiting ") (2 ^ 21) line n → ⊥)
 HasFault S v (WaitingRow left) p line l f = HasRowFault S p.number (IsNextWaiting p) line l f

@@ -1,5 +1,5 @@
 -- What was read of a restart text, as fields, and what is true of it.
-use Rattle.std.specs.Prelude.{◌≡◌, ◌≤◌, ◌<◌, ◌+◌, ◌^◌, ℕ, List, ℤ, Bool, true, false, Result, Ok, Err, Option, ⊤, length}
+use Rattle.std.specs.Prelude.{◌≡◌, ◌≤◌, ◌<◌, ◌+◌, ◌^◌, ℕ, List, ℤ, Bool, true, false, Result, Ok, Err, ⊤, length}
 use Rattle.std.specs.List.{AllByRecursion}
 use Rattle.std.specs.List.Sorted.{IsStrictlySortedBy}
 use Rattle.lift_core.specs.Systems.{ToolSystem}

@@ -1,4 +1,4 @@
-use Rattle.std.proofs.Common.{arith, refl, ap, sym, ◌∙◌, ◌≡◌, get_or, rules, SFits, w64, to_z-of_z}
+use Rattle.std.proofs.Common.{arith, refl, ap, sym, ◌∙◌, get_or, rules, SFits, w64, to_z-of_z}
 use Rattle.std.specs.Prelude.{pos, int_lt}
 use Rattle.restart_file.proofs.CountLines.{counts_alone, no_count_below}
 use Rattle.restart_file.proofs.counts.counts_of.Goals as goal

@@ -1,5 +1,5 @@
-use Rattle.std.proofs.Common.{arith, ap, ◌∙◌, ◌≡◌, drop, take, length, List, ℕ, [], ◌∷◌}
-use Rattle.restart_file.specs.Inside.Windows.{IsLeft, Tells}
+use Rattle.std.proofs.Common.{arith, ap, ◌∙◌, ◌≡◌, drop, take, ℕ}
+use Rattle.restart_file.specs.Inside.Windows.{Tells}
 use Rattle.restart_file.proofs.Remainders.{no_byte, some_byte, taken_more, taken_to_end, tells_same}
 use Rattle.restart_file.proofs.pulling.next_bytes.Goals as goal
 

@@ -1,5 +1,5 @@
-use Rattle.std.proofs.Common.{arith, ap, ◌∙◌, ◌≡◌, drop, take, length, List, ℕ, [], ◌∷◌}
-use Rattle.restart_file.specs.Inside.Windows.{IsLeft, Tells}
+use Rattle.std.proofs.Common.{arith, ◌∙◌, drop}
+use Rattle.restart_file.specs.Inside.Windows.{Tells}
 use Rattle.restart_file.proofs.Remainders.{no_byte, no_line_left, no_line_yet, plain_more, some_byte, taken_line, taken_more, tells_same}
 use Rattle.restart_file.proofs.pulling.next_line.Goals as goal
 

@@ -1,4 +1,4 @@
-use Rattle.std.proofs.Common.{arith, rules, ◌≡◌, ◌≢◌, sym}
+use Rattle.std.proofs.Common.{arith, rules, ◌≡◌, ◌≢◌}
 use Rattle.restart_file.specs.declared.dues.Due.TheVariants.{LastLine}
 use Rattle.restart_file.specs.Reading.{reads_end, reads_too_few}
 use Rattle.restart_file.specs.Inside.Drafts.{cursor_of}

@@ -1,4 +1,4 @@
-use Rattle.std.proofs.Common.{◌≡◌, subst, sym, true, false, ℕ, List}
+use Rattle.std.proofs.Common.{◌≡◌, subst, true, false, ℕ, List}
 use Rattle.restart_file.specs.Inside.Drafts.{Steps, cursor_of, progress_in}
 use Rattle.restart_file.proofs.LineByLine.{line_cause, line_read, line_sound, no_line_read}
 use Rattle.restart_file.proofs.Remainders.{no_line, some_line}

@@ -1,4 +1,4 @@
-use Rattle.std.proofs.Common.{◌∙◌, ◌≡◌, true}
+use Rattle.std.proofs.Common.{◌≡◌, true}
 use Rattle.std.specs.Prelude.{Err}
 use Rattle.restart_file.specs.declared.ends.RestartEnd.TheVariants.{Bad}
 use Rattle.restart_file.specs.declared.ends.RestartFault.TheVariants.{Digest}

@@ -1,4 +1,4 @@
-use Rattle.std.proofs.Common.{arith, ap, sym, refl, ◌∙◌, ◌≡◌, ◌-◌, ◌+◌, length, get_or, List, Ordering, Less, []}
+use Rattle.std.proofs.Common.{arith, ap, sym, refl, ◌∙◌, ◌≡◌, ◌-◌, ◌+◌, length, get_or, List, Less, []}
 use Rattle.std.specs.Prelude.{ℤ}
 use Rattle.lift_core.specs.Stages.{norm_cmp}
 use Rattle.restart_file.proofs.StageRows.{behind_rows_last, last_before, one_ascends}

@@ -1,4 +1,4 @@
-use Rattle.std.proofs.Common.{arith, refl, ap, sym, take, drop, ℕ, List}
+use Rattle.std.proofs.Common.{arith, refl, ap, take, drop, ℕ, List}
 use Rattle.restart_file.proofs.Seals.{hashed_all, hashed_more}
 use Rattle.restart_file.proofs.sealing.hash_piece.Goals as goal
 

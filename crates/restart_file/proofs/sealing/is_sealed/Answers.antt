@@ -1,8 +1,7 @@
-use Rattle.std.proofs.Common.{arith, inl, inr, ap, refl, sym, ◌∙◌, ◌≡◌, ◌-◌, ◌++◌, ◌∷◌, [], drop, take, length, List, ℕ}
+use Rattle.std.proofs.Common.{arith, inl, inr, ap, refl, sym, ◌∙◌, ◌≡◌, ◌-◌, ◌++◌, ◌∷◌, [], drop, List, ℕ}
 use Rattle.std.specs.Prelude.{codes}
 use Rattle.hex.specs.Hex.{encode_lower}
 use Rattle.restart_file.specs.Inside.Windows.{IsLeft, Tells}
-use Rattle.sha2.specs.Sha256.{sha256}
 use Rattle.restart_file.proofs.Remainders.{tells_same}
 use Rattle.restart_file.proofs.Seals.{equal_seals, not_sealed, sealed_equal}
 use Rattle.restart_file.proofs.sealing.is_sealed.Goals as goal
@@ -21,8 +20,7 @@ returns-clause-sealed g c = λ text t e.
     let tail = c.in_ok-next_bytes.ensures.bytes text (drop (c.args.size - 72) text) now hashed.1 in
     let wanted : c.push_digest.new.line.items ≡ codes "digest " ++ encode_lower c.in_ok-digest.digest ++ 10 ∷ [] =
     c.in_ok-push_digest.ensures ∙ ap (λ (front : List ℕ). front ++ (codes "digest " ++ encode_lower c.in_ok-digest.digest ++ 10 ∷ [])) c.new-wanted.ensures.items
-    in
-    (
+    in (
       λ q.
           equal_seals text c.args.size (c.args.size - 72) c.in_ok-digest.digest c.next_bytes.new.bytes.items c.push_digest.new.line.items e refl (omega (arith, c.if-size-lt-LAST.false)) (omega (arith, c.if-size-ge-TOO_LONG.false)) hashed.0 tail wanted
           (sym c.deref.ensures.value ∙ c.is_same.ensures.0 q ∙ c.deref-2.ensures.value),
