@@ -32,7 +32,7 @@ no_count_below cells ns i e inside below =
     not_below : (n : ℕ) → int_lt (pos n) (pos 0) ≡ true → ⊥
     not_below n e = grind (arith, ints, e)
 
-same_counts : (ns ms : List ℕ) → map pos ns ≡ map pos ms → ns ≡ ms
+pub same_counts : (ns ms : List ℕ) → map pos ns ≡ map pos ms → ns ≡ ms
 same_counts ns ms e = sym (back ns) ∙ ap (map nat_abs) e ∙ back ms
   where
     back : (ks : List ℕ) → map nat_abs (map pos ks) ≡ ks

@@ -9,3 +9,4 @@ pub mod Seals
 pub mod CountLines
 pub mod LineByLine
 pub mod Built
+pub mod OneReading

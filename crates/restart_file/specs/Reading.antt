@@ -137,7 +137,7 @@ Follows S v (ListedRow left) p line next =
     (z : List ℤ) × IsRow S line z × IsStageRow S.equations p.number z × IsNextListed p z
     × (next ≡ at v (listed_due v (left - 1)) (with_listed z p))
 Follows S v ClassesLine p line next =
-    (line ≡ counts_line (codes "classes ") (class_counts p.listed)) × (next ≡ at v WaitingLine p)
+    AreCounts (codes "classes ") (2 ^ 21) line (class_counts p.listed) × (next ≡ at v WaitingLine p)
 Follows S v WaitingLine p line next =
     (n : ℕ) × IsCount (codes "waiting ") (2 ^ 21) line n × (next ≡ at v (waiting_due n) p)
 Follows S v (WaitingRow left) p line next =

@@ -9,6 +9,7 @@ mod counts;
 mod drafts;
 mod dues;
 mod ends;
+mod laws;
 mod lines;
 mod numbers;
 mod pulling;
@@ -20,6 +21,7 @@ mod writing;
 
 pub use dues::Due;
 pub use ends::{RestartEnd, RestartFault};
+pub use laws::reading_law;
 pub use lines::Version;
 pub use reading::read_restart;
 pub use writing::write_restart;
