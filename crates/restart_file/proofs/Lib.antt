@@ -2,3 +2,11 @@ pub mod Spacing
 pub mod Counted
 pub mod Sending
 pub mod Numerals
+pub mod StageRows
+pub mod Steps
+pub mod Remainders
+pub mod Seals
+pub mod CountLines
+pub mod LineByLine
+pub mod Built
+pub mod OneReading

@@ -1,6 +1,6 @@
 -- The words of a line of cells, and the numbers that they write.
-use Rattle.std.proofs.Common.{inl, inr, ◌≡◌, ◌≢◌, ◌<◌, ◌≤◌, ◌+◌, ◌^◌, ℕ, zero, suc, List, [], ◌∷◌, ◌++◌, length, take, drop, get_or, Bool, true, false, refl, sym, ap, subst, ◌∙◌, arith, append_assoc, w64, eqb}
-use Rattle.std.specs.Prelude.{ℤ, pos, negsuc, nat_abs, Result, Ok, Err, Option, Some, None, ◌==◌, ◌||◌}
+use Rattle.std.proofs.Common.{inl, inr, ◌≡◌, ◌<◌, ◌≤◌, ◌+◌, ◌^◌, ℕ, zero, suc, List, [], ◌∷◌, ◌++◌, length, take, drop, get_or, Bool, true, false, refl, sym, ap, subst, ◌∙◌, arith, append_assoc, w64, eqb}
+use Rattle.std.specs.Prelude.{ℤ, pos, negsuc, Result, Ok}
 use Rattle.std.specs.Int.Signed.{mag}
 use Rattle.std.specs.Str.{IsUtf8}
 use Rattle.std.specs.Str.Parse.{ParsesSigned}
@@ -8,7 +8,7 @@ use Rattle.std.specs.Fmt.{signed_decimal}
 use Rattle.std.specs.List.{AllByRecursion, AllWithin}
 use Rattle.std.proofs.Math.ListN.{set}
 use Rattle.std.proofs.Math.Seq.{drop-cons}
-use Rattle.std.proofs.lemmas.Int.{ints, fits_signed_from_abs}
+use Rattle.std.proofs.lemmas.Int.{fits_signed_from_abs}
 use Rattle.std.proofs.lemmas.Fmt.{parse-signed_decimal, IsAscii-signed}
 use Rattle.std.proofs.lemmas.Str.{IsUtf8-from_ascii}
 use Rattle.std.proofs.lemmas.List.{take_at, take_more, take_more_set, length-drop}
@@ -24,7 +24,7 @@ use Rattle.mat_files.proofs.PrintedNumbers.{word-signed_decimal}
 use Rattle.restart_file.specs.Inside.Words.{ends_word, IsGuessed}
 
 -- ---- a number in its written form
-small_mag : (z : ℤ) → InRange z → mag z < 2 ^ 63
+pub small_mag : (z : ℤ) → InRange z → mag z < 2 ^ 63
 small_mag (pos n) h = omega (arith, h)
 small_mag (negsuc n) h = omega (arith, h)
 
@@ -36,7 +36,7 @@ parsed_signed z word text r h is same p = parse-signed_decimal w64 z text r (fit
 
 -- ---- the words of a line
 -- no byte of a written number ends a word
-no_end : (bs : List ℕ) → AllByRecursion (λ b. is_blank b ≡ false) bs → AllByRecursion (λ b. ends_word b ≡ false) bs
+pub no_end : (bs : List ℕ) → AllByRecursion (λ b. is_blank b ≡ false) bs → AllByRecursion (λ b. ends_word b ≡ false) bs
 no_end [] h = tt
 no_end (b ∷ bs) h = (one b h.0, no_end bs h.1)
   where
@@ -63,7 +63,7 @@ pub record IsSplit (z : ℤ) (zs : List ℤ) : Type 0 where
   pub ends : ends_word byte ≡ true
   pub line_of_others : 0 < length zs → others ≡ line_of zs
 
-split : (z : ℤ) (zs : List ℤ) → IsSplit z zs
+pub split : (z : ℤ) (zs : List ℤ) → IsSplit z zs
 split z [] = record { byte = 10; others = []; line = refl; ends = refl; line_of_others = λ h. absurd (omega (arith, h)) }
 split z (y ∷ ys) = record {
   byte = 32;

@@ -1,7 +1,7 @@
 -- Lines whose texts are joined by one space, text by text, and the lines of a system by their places.
 use Rattle.std.proofs.Common.{◌≡◌, ◌<◌, ◌≤◌, ◌+◌, ◌-◌, ℕ, zero, suc, List, [], ◌∷◌, ◌++◌, length, drop, get_or, refl, sym, ap, subst, ◌∙◌, append_assoc, append-nil, arith}
-use Rattle.std.specs.Prelude.{ℤ, Option, None, Some, map, replicate}
-use Rattle.std.proofs.lemmas.List.{length-append, length-replicate, get_or-map, length-map, length-drop}
+use Rattle.std.specs.Prelude.{ℤ, Option, None, map}
+use Rattle.std.proofs.lemmas.List.{get_or-map, length-map, length-drop}
 use Rattle.std.proofs.Math.Seq.{drop-cons}
 use Rattle.lift_core.specs.Systems.{ToolSystem}
 use Rattle.lift_core.specs.ToolSystems.{IsToolSystem, width}

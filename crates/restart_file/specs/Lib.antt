@@ -7,4 +7,5 @@ pub mod Texts
 pub mod Ends
 pub mod Reading
 pub mod Stored
+pub mod Laws
 pub mod Inside

@@ -99,11 +99,10 @@ pub record IsCount (word : List ℕ) (most : ℕ) (line : List ℕ) (n : ℕ) : 
   pub written : line ≡ counts_line word (n ∷ [])
 
 -- the line of a word and three counts that are at most `most`
-pub record AreCounts (word : List ℕ) (most : ℕ) (line : List ℕ) (a b c : ℕ) : Type 0 where
-  pub first : a ≤ most
-  pub second : b ≤ most
-  pub third : c ≤ most
-  pub written : line ≡ counts_line word (a ∷ b ∷ c ∷ [])
+pub record AreCounts (word : List ℕ) (most : ℕ) (line : List ℕ) (ns : List ℕ) : Type 0 where
+  pub three : length ns ≡ 3
+  pub within : AllByRecursion (λ n. n ≤ most) ns
+  pub written : line ≡ counts_line word ns
 
 -- the line of numbers in range, one for each column and one for the product
 pub record IsRow (S : ToolSystem) (line : List ℕ) (z : List ℤ) : Type 0 where
@@ -138,7 +137,7 @@ Follows S v (ListedRow left) p line next =
     (z : List ℤ) × IsRow S line z × IsStageRow S.equations p.number z × IsNextListed p z
     × (next ≡ at v (listed_due v (left - 1)) (with_listed z p))
 Follows S v ClassesLine p line next =
-    (line ≡ counts_line (codes "classes ") (class_counts p.listed)) × (next ≡ at v WaitingLine p)
+    AreCounts (codes "classes ") (2 ^ 21) line (class_counts p.listed) × (next ≡ at v WaitingLine p)
 Follows S v WaitingLine p line next =
     (n : ℕ) × IsCount (codes "waiting ") (2 ^ 21) line n × (next ≡ at v (waiting_due n) p)
 Follows S v (WaitingRow left) p line next =
@@ -173,10 +172,9 @@ HasFault S v ListedLine p line l f =
     (f ≡ Text l) × ((n : ℕ) → IsCount (codes "listed ") (2 ^ 21) line n → ⊥)
 HasFault S v (ListedRow left) p line l f = HasRowFault S p.number (IsNextListed p) line l f
 HasFault S v ClassesLine p line l f =
-    ((f ≡ Text l) × ((a b c : ℕ) → AreCounts (codes "classes ") (2 ^ 21) line a b c → ⊥))
+    ((f ≡ Text l) × ((ns : List ℕ) → AreCounts (codes "classes ") (2 ^ 21) line ns → ⊥))
     ⊎ ((f ≡ Classes l)
-        × ((a : ℕ) × (b : ℕ) × (c : ℕ) × AreCounts (codes "classes ") (2 ^ 21) line a b c
-            × ((a ∷ b ∷ c ∷ []) ≢ class_counts p.listed)))
+    × ((ns : List ℕ) × AreCounts (codes "classes ") (2 ^ 21) line ns × (ns ≢ class_counts p.listed)))
 HasFault S v WaitingLine p line l f =
     (f ≡ Text l) × ((n : ℕ) → IsCount (codes "waiting ") (2 ^ 21) line n → ⊥)
 HasFault S v (WaitingRow left) p line l f = HasRowFault S p.number (IsNextWaiting p) line l f

@@ -5,15 +5,23 @@
 #![tactic(auto)]
 
 mod classes;
+mod counts;
+mod drafts;
 mod dues;
 mod ends;
+mod laws;
 mod lines;
 mod numbers;
+mod pulling;
 mod reading;
+mod rows;
+mod sealing;
+mod windows;
 mod writing;
 
 pub use dues::Due;
 pub use ends::{RestartEnd, RestartFault};
+pub use laws::reading_law;
 pub use lines::Version;
 pub use reading::read_restart;
 pub use writing::write_restart;

@@ -1,4 +1,4 @@
-use Rattle.std.proofs.Common.{rules, arith, length, ◌<◌, subst, sym, SFits, w64, to_z, of_z, to_z-of_z, ◌∙◌, ◌≡◌}
+use Rattle.std.proofs.Common.{rules, arith, length, ◌<◌, subst, sym, SFits, w64, to_z, of_z, to_z-of_z, ◌∙◌}
 use Rattle.std.proofs.lemmas.List.{length-set}
 use Rattle.std.specs.Prelude.{ℤ}
 use Rattle.int_vector.specs.Range.{InRange}

@@ -1,4 +1,4 @@
-use Rattle.std.proofs.Common.{◌≡◌, ℕ, ◌<◌, ◌≤◌, length, take, drop, get_or, List}
+use Rattle.std.proofs.Common.{◌≡◌, length, List}
 use Rattle.std.specs.Prelude.{ℤ}
 use Rattle.std.specs.List.{AllByRecursion, AllWithin}
 use Rattle.int_vector.specs.Range.{InRange}

@@ -1,5 +1,5 @@
-use Rattle.std.proofs.Common.{ap, sym, ◌∙◌, ◌≡◌, rules, to_z-of_z, SFits, w64}
-use Rattle.std.specs.Prelude.{Ok, Some, ℤ}
+use Rattle.std.proofs.Common.{ap, ◌∙◌, ◌≡◌, rules, to_z-of_z, SFits, w64}
+use Rattle.std.specs.Prelude.{Some}
 use Rattle.restart_file.proofs.Numerals.{utf8_signed, parsed_signed}
 use Rattle.restart_file.proofs.numbers.parsed.Goals as goal
 
