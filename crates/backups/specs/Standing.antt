@@ -68,7 +68,7 @@ abbrev pub MayStandAfter : Turns → Limits → StageValue → List StageValue �
 MayStandAfter turns limits final closed before after =
     (after ≡ Some (backed turns closed before))
     ⊎ ((t : StageValue) × IsClosing limits final t × (k : ℕ)
-        × (after ≡ Some (written (next_backup turns closed) (take k (text_of_stage t)) (backed turns closed before))))
+    × (after ≡ Some (written (next_backup turns closed) (take k (text_of_stage t)) (backed turns closed before))))
 
 -- the files have the backups of the first norms that the walk closes, and that of one more may be torn
 abbrev pub HasFirstBackups : Turns → Limits → Lifted → Files → Option Files → Type 0
@@ -123,4 +123,4 @@ OneStands =
     → (first ≡ second → ⊥)
     → (name : List ℕ)
     × (get (written (slice_index_or (names_after (first ∷ second ∷ []) (stages ++ last ∷ [])) 0 []) torn
-        (written_in_turn (first ∷ second ∷ []) (stages ++ last ∷ []) files)) name ≡ Some (text_of_stage last))
+    (written_in_turn (first ∷ second ∷ []) (stages ++ last ∷ []) files)) name ≡ Some (text_of_stage last))

@@ -230,7 +230,7 @@ module _ (tool : Tool) (job : Job) where
       → IfSome held (λ files. input_in tool job.tables (project_of job) files ≡ Ok input) → IsShaped tool input S
       → IfSome mid (λ files. FindsStartOf (resumes job) S (stored_of (project_of job) files) (Ok s))
       → ((stored : Stored) → IsShaped tool input (tool_system tool input) → StartsAs (record { job = job; tool = tool; input = input; stored = stored }) s
-          → EndsOver (Ok (record { job = job; tool = tool; input = input; stored = stored })) last new told tells e)
+      → EndsOver (Ok (record { job = job; tool = tool; input = input; stored = stored })) last new told tells e)
       → IfSome held (λ files. Ends (plan_of tool job files) (traces files new told tells) e)
   ends-carried input None mid last new told tells S s e same same' found shaped h ends = tt
   ends-carried input (Some files) mid last new told tells S s e same same' found shaped h ends =

@@ -274,4 +274,3 @@ tells-told job outputs used told tells (Ok totals) h = h.out
 tells-told job outputs used told tells (Err (Outside part)) h = inr (h.0, (rows_in outputs, used, norms_in outputs, h.1))
 tells-told job outputs used told tells (Err Memory) h = inr (rows_in outputs, used, norms_in outputs, h)
 tells-told job outputs used told tells (Err e) h = absurd h
-
