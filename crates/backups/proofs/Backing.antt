@@ -11,54 +11,77 @@ use Rattle.backups.specs.Backups.{after_norm, backed_up, ends_of_intervals, turn
 use Rattle.backups.specs.Standing.{names_after}
 
 -- with the test's answer
-one_more : (b : Bool) (s : BackupState) (stage : StageValue) → nat_lt 1 s.left ≡ b → after_norm s stage ≡ cond b (record s { left = s.left - 1 }) (backed_up s stage)
+one_more : (b : Bool) (s : BackupState) (stage : StageValue) → nat_lt 1 s.left ≡ b
+    → after_norm s stage ≡ cond b (record s { left = s.left - 1 }) (backed_up s stage)
 one_more b s stage e = ap (λ t. cond t (record s { left = s.left - 1 }) (backed_up s stage)) e
 
-ends_one_more : (b : Bool) (n left : ℕ) (stage : StageValue) (stages : List StageValue) → nat_lt 1 left ≡ b → ends_of_intervals n left (stage ∷ stages) ≡ cond b (ends_of_intervals n (left - 1) stages) (stage ∷ ends_of_intervals n n stages)
-ends_one_more b n left stage stages e = ap (λ t. cond t (ends_of_intervals n (left - 1) stages) (stage ∷ ends_of_intervals n n stages)) e
+ends_one_more : (b : Bool) (n left : ℕ) (stage : StageValue) (stages : List StageValue)
+    → nat_lt 1 left ≡ b → ends_of_intervals n left (stage ∷ stages) ≡ cond b (ends_of_intervals n
+    (left - 1) stages) (stage ∷ ends_of_intervals n n stages)
+ends_one_more b n left stage stages e = ap (λ t. cond t (ends_of_intervals n (left - 1) stages)
+    (stage ∷ ends_of_intervals n n stages)) e
 
 -- nothing is written
-none_written : (names : List (List ℕ)) (held : Option Files) → held ≡ option_map (written_in_turn names []) held
+none_written : (names : List (List ℕ)) (held : Option Files)
+    → held ≡ option_map (written_in_turn names []) held
 none_written names None = refl
 none_written names (Some files) = refl
 
 -- one text, and then the others
-one_written : (names : List (List ℕ)) (name : List ℕ) (stage : StageValue) (stages : List StageValue) (held : Option Files)
-    → option_map (written_in_turn (turned names) stages) (option_map (written name (text_of_stage stage)) held) ≡ option_map (λ files. written_in_turn (turned names) stages (written name (text_of_stage stage) files)) held
+one_written : (names : List (List ℕ)) (name : List ℕ) (stage : StageValue) (stages : List
+    StageValue) (held : Option Files)
+    → option_map (written_in_turn (turned names) stages) (option_map (written name (text_of_stage
+    stage)) held) ≡ option_map (λ files. written_in_turn (turned names) stages (written name
+    (text_of_stage stage) files)) held
 one_written names name stage stages None = refl
 one_written names name stage stages (Some files) = refl
 
-pub go_in_turn : (s : BackupState) (closed : List StageValue) → (fold after_norm s closed).files ≡ option_map (written_in_turn s.names (ends_of_intervals s.interval s.left closed)) s.files
+pub go_in_turn : (s : BackupState) (closed : List StageValue)
+    → (fold after_norm s closed).files ≡ option_map (written_in_turn s.names (ends_of_intervals
+    s.interval s.left closed)) s.files
 go_in_turn s [] = none_written s.names s.files
 go_in_turn s (stage ∷ stages) =
-    elim (nat_lt 1 s.left) as (λ b. nat_lt 1 s.left ≡ b → (fold after_norm s (stage ∷ stages)).files ≡ option_map (written_in_turn s.names (ends_of_intervals s.interval s.left (stage ∷ stages))) s.files) [
+    elim (nat_lt 1 s.left) as (λ b. nat_lt 1 s.left ≡ b
+    → (fold after_norm s (stage ∷ stages)).files ≡ option_map (written_in_turn s.names
+    (ends_of_intervals s.interval s.left (stage ∷ stages))) s.files) [
       | true ↦ λ e.
-          ap (λ t. (fold after_norm t stages).files) (one_more true s stage e) ∙ go_in_turn (record s { left = s.left - 1 }) stages
-          ∙ ap (λ l. option_map (written_in_turn s.names l) s.files) (sym (ends_one_more true s.interval s.left stage stages e))
+          ap (λ t. (fold after_norm t stages).files) (one_more true s stage e) ∙ go_in_turn (record
+          s { left = s.left - 1 }) stages
+          ∙ ap (λ l. option_map (written_in_turn s.names l) s.files) (sym (ends_one_more true
+          s.interval s.left stage stages e))
       | false ↦ λ e.
-          ap (λ t. (fold after_norm t stages).files) (one_more false s stage e) ∙ go_in_turn (backed_up s stage) stages
+          ap (λ t. (fold after_norm t stages).files) (one_more false s stage e) ∙ go_in_turn
+          (backed_up s stage) stages
           ∙ one_written s.names (next_name s) stage (ends_of_intervals s.interval s.interval stages) s.files
-          ∙ ap (λ l. option_map (written_in_turn s.names l) s.files) (sym (ends_one_more false s.interval s.left stage stages e))
+          ∙ ap (λ l. option_map (written_in_turn s.names l) s.files) (sym (ends_one_more false
+          s.interval s.left stage stages e))
     ] refl
 
 -- the names after closed norms
-pub names_go : (s : BackupState) (closed : List StageValue) → (fold after_norm s closed).names ≡ names_after s.names (ends_of_intervals s.interval s.left closed)
+pub names_go : (s : BackupState) (closed : List StageValue)
+    → (fold after_norm s closed).names ≡ names_after s.names (ends_of_intervals s.interval s.left closed)
 names_go s [] = refl
 names_go s (stage ∷ stages) =
-    elim (nat_lt 1 s.left) as (λ b. nat_lt 1 s.left ≡ b → (fold after_norm s (stage ∷ stages)).names ≡ names_after s.names (ends_of_intervals s.interval s.left (stage ∷ stages))) [
+    elim (nat_lt 1 s.left) as (λ b. nat_lt 1 s.left ≡ b
+    → (fold after_norm s (stage ∷ stages)).names ≡ names_after s.names (ends_of_intervals
+    s.interval s.left (stage ∷ stages))) [
       | true ↦ λ e.
-          ap (λ t. (fold after_norm t stages).names) (one_more true s stage e) ∙ names_go (record s { left = s.left - 1 }) stages
+          ap (λ t. (fold after_norm t stages).names) (one_more true s stage e) ∙ names_go (record s
+          { left = s.left - 1 }) stages
           ∙ ap (λ l. names_after s.names l) (sym (ends_one_more true s.interval s.left stage stages e))
       | false ↦ λ e.
-          ap (λ t. (fold after_norm t stages).names) (one_more false s stage e) ∙ names_go (backed_up s stage) stages
+          ap (λ t. (fold after_norm t stages).names) (one_more false s stage e) ∙ names_go
+          (backed_up s stage) stages
           ∙ ap (λ l. names_after s.names l) (sym (ends_one_more false s.interval s.left stage stages e))
     ] refl
 
 -- the folder that is lent stays the same
-same_loan : (b : Bool) (s : BackupState) (stage : StageValue) → nat_lt 1 s.left ≡ b → (after_norm s stage).lent ≡ s.lent
+same_loan : (b : Bool) (s : BackupState) (stage : StageValue) → nat_lt 1 s.left ≡ b
+    → (after_norm s stage).lent ≡ s.lent
 same_loan true s stage e = ap (λ (t : BackupState). t.lent) (one_more true s stage e)
 same_loan false s stage e = ap (λ (t : BackupState). t.lent) (one_more false s stage e)
 
 pub loan_stays : (s : BackupState) (closed : List StageValue) → (fold after_norm s closed).lent ≡ s.lent
 loan_stays s [] = refl
-loan_stays s (stage ∷ stages) = loan_stays (after_norm s stage) stages ∙ same_loan (nat_lt 1 s.left) s stage refl
+loan_stays s (stage ∷ stages) = loan_stays (after_norm s stage) stages ∙ same_loan (nat_lt 1 s.left)
+    s stage refl

@@ -23,59 +23,84 @@ use Rattle.backups.specs.Starts.{Begins, IsKept, IsDefinedStart, StartComesTo, s
 use Rattle.backups.specs.Standing.{Turns, turns_from, LeavesFrom, LeavesRun, ended, named_end, IsSoundFrom, AreSolutions, HasStoppedCause}
 use Rattle.backups.proofs.Soundness.{finished_sound}
 
-both : (named : Option End) (P Q : End → Type 0) (D : Type 0) → IfSome named P → (D → IfSome named Q) → IfSome named (λ e. P e × (D → Q e))
+both : (named : Option End) (P Q : End → Type 0) (D : Type 0) → IfSome named P → (D
+    → IfSome named Q) → IfSome named (λ e. P e × (D → Q e))
 both None P Q D p q = tt
 both (Some e) P Q D p q = (p, q)
 
-pub comes_from : (limits : Limits) (start : Start) (from : Lifted) (answer : Result Finish RunEnd) → Begins start from → AnswersWalk limits from answer
-    → (IsLiftedDefined from → AnswersEnd limits from answer) → (IsDefinedStart start → IsLiftedDefined from) → IfSome (end_of answer) (StartComesTo limits start)
-comes_from limits (Fresh S) from answer b walk end defined = run_ends limits S from answer b (end (defined tt))
+pub comes_from : (limits : Limits) (start : Start) (from : Lifted) (answer : Result Finish RunEnd) →
+    Begins start from → AnswersWalk limits from answer
+    → (IsLiftedDefined from → AnswersEnd limits from answer) → (IsDefinedStart start
+    → IsLiftedDefined from) → IfSome (end_of answer) (StartComesTo limits start)
+comes_from limits (Fresh S) from answer b walk end defined = run_ends limits S from answer b (end
+    (defined tt))
 comes_from limits (Resumed s slot) from answer b walk end defined =
-    both (end_of answer) (StageWalks limits s) (EndsIn s.system.equations limits s.number s.norm) (IsDefined s)
+    both (end_of answer) (StageWalks limits s) (EndsIn s.system.equations limits s.number s.norm)
+    (IsDefined s)
     (subst (λ (l : Lifted). AnswersWalk limits l answer) b walk)
     (λ d. subst (λ (l : Lifted). AnswersEnd limits l answer) b (end (defined d)))
 
-pub system_from : (start : Start) (from : Lifted) (result : Result Finish Stopped) → Begins start from → IfOk result (KeepsSystem from) → IfOk result (IsOfSystem (system_of start))
+pub system_from : (start : Start) (from : Lifted) (result : Result Finish Stopped)
+    → Begins start from → IfOk result (KeepsSystem from) → IfOk result (IsOfSystem (system_of start))
 system_from (Fresh S) from (Ok f) b h = of_first S from f b h
 system_from (Resumed s slot) from (Ok f) b h = subst (λ (l : Lifted). KeepsSystem l f) b h
 system_from start from (Err e) b h = tt
 
-pub sound_from : (limits : Limits) (start : Start) (result : Result Finish Stopped) → IsKept start → IfOk result (IsOfSystem (system_of start)) → IfSome (named_end result) (StartComesTo limits start)
+pub sound_from : (limits : Limits) (start : Start) (result : Result Finish Stopped)
+    → IsKept start → IfOk result (IsOfSystem (system_of start))
+    → IfSome (named_end result) (StartComesTo limits start)
     → IfOk result (IsSoundFrom start)
 sound_from limits (Fresh S) (Ok f) kept of comes = tt
 sound_from limits (Resumed s slot) (Ok f) kept of comes =
-    subst (λ (T : ToolSystem). AreSolutions T.equations f.rows.rows) (sym of.system_is) (finished_sound limits s f.rows.rows f.pairs kept comes.0)
+    subst (λ (T : ToolSystem). AreSolutions T.equations f.rows.rows) (sym of.system_is)
+    (finished_sound limits s f.rows.rows f.pairs kept comes.0)
 sound_from limits start (Err e) kept of comes = tt
 
-pub leaves_from : (turns : Turns) (limits : Limits) (start : Start) (from : Lifted) (named : Option End) (held after : Option Files) → Begins start from
-    → IfSome held (λ files. LeavesFrom turns limits from named files after) → IfSome held (λ files. LeavesRun turns limits start named files after)
+pub leaves_from : (turns : Turns) (limits : Limits) (start : Start) (from : Lifted) (named : Option
+    End) (held after : Option Files) → Begins start from
+    → IfSome held (λ files. LeavesFrom turns limits from named files after)
+    → IfSome held (λ files. LeavesRun turns limits start named files after)
 leaves_from turns limits start from named None after b h = tt
 leaves_from turns limits start from named (Some files) after b h = inl (from, b, h)
 
 -- the run did not begin
-pub leaves_before : (turns : Turns) (limits : Limits) (start : Start) (held after : Option Files) → after ≡ held → IfSome held (λ files. LeavesRun turns limits start None files after)
+pub leaves_before : (turns : Turns) (limits : Limits) (start : Start) (held after : Option Files)
+    → after ≡ held → IfSome held (λ files. LeavesRun turns limits start None files after)
 leaves_before turns limits start None after same = tt
 leaves_before turns limits start (Some files) after same = inr (refl, same)
 
 -- ---- an answer, and the file of the next backup
-pub of_ended : (P : Finish → Type 0) (r : Result Finish Stopped) (answer : Result Finish RunEnd) → ended r ≡ answer → IfOk answer P → IfOk r P
+pub of_ended : (P : Finish → Type 0) (r : Result Finish Stopped) (answer : Result Finish RunEnd)
+    → ended r ≡ answer → IfOk answer P → IfOk r P
 of_ended P (Ok f) answer e h = subst (λ (x : Result Finish RunEnd). IfOk x P) (sym e) h
 of_ended P (Err s) answer e h = tt
 
-pub alone_leaves : (limits : Limits) (from : Lifted) (r : Result Finish Stopped) (answer : Result Finish RunEnd) (slot : Slot) (interval : Option ℕ) (first second : List ℕ) (held : Option Files) → interval ≡ None → ended r ≡ answer
-    → ((names : List (List ℕ)) (files : Files) → LeavesFrom (record { interval = None; names = names }) limits from (end_of answer) files (Some files))
-    → IfSome held (λ files. LeavesFrom (turns_from slot interval first second) limits from (named_end r) files held)
+pub alone_leaves : (limits : Limits) (from : Lifted) (r : Result Finish Stopped) (answer : Result
+    Finish RunEnd) (slot : Slot) (interval : Option ℕ) (first second : List ℕ) (held : Option Files)
+    → interval ≡ None → ended r ≡ answer
+    → ((names : List (List ℕ)) (files : Files)
+    → LeavesFrom (record { interval = None; names = names }) limits from (end_of answer) files
+    (Some files))
+    → IfSome held (λ files. LeavesFrom (turns_from slot interval first second) limits from
+    (named_end r) files held)
 alone_leaves limits from r answer slot interval first second None is e h = tt
 alone_leaves limits from r answer slot interval first second (Some files) is e h =
-    subst (λ (i : Option ℕ). LeavesFrom (turns_from slot i first second) limits from (named_end r) files (Some files)) (sym is)
-    (subst (λ (x : Result Finish RunEnd). LeavesFrom (turns_from slot None first second) limits from (end_of x) files (Some files)) (sym e) (h (names_from slot first second) files))
+    subst (λ (i : Option ℕ). LeavesFrom (turns_from slot i first second) limits from (named_end r)
+    files (Some files)) (sym is)
+    (subst (λ (x : Result Finish RunEnd). LeavesFrom (turns_from slot None first second) limits from
+    (end_of x) files (Some files)) (sym e) (h (names_from slot first second) files))
 
-pub alone_calm : (r : Result Finish Stopped) (answer : Result Finish RunEnd) (A : Type 0) → ended r ≡ answer → (answer ≡ Err Failed → ⊥) → (s : Stopped) → r ≡ Err s → s.end ≡ Failed → A
-alone_calm r answer A e sure s is failed = absurd (sure (sym e ∙ ap ended is ∙ ap (λ (x : RunEnd). Err x) failed))
+pub alone_calm : (r : Result Finish Stopped) (answer : Result Finish RunEnd) (A : Type 0)
+    → ended r ≡ answer → (answer ≡ Err Failed → ⊥) → (s : Stopped) → r ≡ Err s → s.end ≡ Failed → A
+alone_calm r answer A e sure s is failed = absurd (sure (sym e ∙ ap ended is ∙ ap (λ (x : RunEnd).
+    Err x) failed))
 
 -- the Keep's count is that of the folder that it was lent
-pub stop_cause : (r : Result Finish Stopped) (answer : Result Finish RunEnd) (first last before now : ℕ) → ended r ≡ answer → first ≡ before → last ≡ now → HasKeepCause first last answer → HasStoppedCause before now r
+pub stop_cause : (r : Result Finish Stopped) (answer : Result Finish RunEnd) (first last before now
+    : ℕ) → ended r ≡ answer → first ≡ before → last ≡ now → HasKeepCause first last answer
+    → HasStoppedCause before now r
 stop_cause r answer first last before now e f l h = record {
   later = omega (arith, f, l, h.later);
-  failed = λ s is failed. subst (λ x. Rose x now) f (subst (λ y. Rose first y) l (h.failed (sym e ∙ ap ended is ∙ ap (λ (x : RunEnd). Err x) failed)));
+  failed = λ s is failed. subst (λ x. Rose x now) f (subst (λ y. Rose first y) l (h.failed (sym e ∙
+      ap ended is ∙ ap (λ (x : RunEnd). Err x) failed)));
 }

@@ -3,3 +3,4 @@ pub mod Leaving
 pub mod Soundness
 pub mod Coming
 pub mod Looking
+pub mod Whole

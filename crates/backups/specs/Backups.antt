@@ -30,9 +30,13 @@ backed_up s stage = record {
 abbrev pub after_norm : BackupState → StageValue → BackupState
 after_norm s stage = if nat_lt 1 s.left then record s { left = s.left - 1 } else backed_up s stage
 
--- a refused backup leaves the next name as before, or with a prefix of the stage's text, and all else as before
+-- a refused backup leaves the next name as before, or with a prefix of the stage's text, and all
+-- else as before
 abbrev pub MayBackUp : BackupState → StageValue → BackupState → Type 0
-MayBackUp s stage t = (s.left ≤ 1) × ((t ≡ s) ⊎ ((k : ℕ) × (t ≡ record s { files = option_map (written (next_name s) (take k (text_of_stage stage))) s.files })))
+MayBackUp s stage t = (s.left ≤ 1) × ((t ≡ s) ⊎ ((k : ℕ) × (t ≡ record s {
+  files = option_map
+      (written (next_name s) (take k (text_of_stage stage))) s.files;
+})))
 
 -- ---- many norms
 -- the stages at the end of each interval, where so many norms are left to the first
@@ -48,8 +52,10 @@ written_in_turn names [] files = files
 written_in_turn names (stage ∷ stages) files =
     written_in_turn (turned names) stages (written (slice_index_or names 0 []) (text_of_stage stage) files)
 
--- the files after closed norms hold the backups of the last norm of each interval, which went to the names in turn
+-- the files after closed norms hold the backups of the last norm of each interval, which went to
+-- the names in turn
 abbrev pub GoInTurn : Type 0
 GoInTurn =
     (s : BackupState) (closed : List StageValue)
-    → (fold after_norm s closed).files ≡ option_map (written_in_turn s.names (ends_of_intervals s.interval s.left closed)) s.files
+    → (fold after_norm s closed).files ≡ option_map (written_in_turn s.names (ends_of_intervals
+    s.interval s.left closed)) s.files

@@ -1,6 +1,7 @@
 -- What stands in a folder after a run with backups.
-use Rattle.std.specs.Prelude.{◌≡◌, ◌⊎◌, ◌≤◌, ◌<◌, ℕ, ℤ, List, [], ◌∷◌, length, Option, None, Some, Result, Ok, Err, take, slice_index_or, ⊤}
+use Rattle.std.specs.Prelude.{◌≡◌, ◌⊎◌, ◌≤◌, ◌<◌, ℕ, ℤ, List, [], ◌∷◌, ◌++◌, length, Option, None, Some, Result, Ok, Err, take, slice_index_or, ⊤}
 use Rattle.std.specs.List.{AllByRecursion}
+use Rattle.std.specs.FinMap.{get}
 use Rattle.outside.specs.Files.{Files, written}
 use Rattle.outside.specs.Causes.{Rose}
 use Rattle.int_vector.specs.Vectors.{norm}
@@ -67,7 +68,7 @@ abbrev pub MayStandAfter : Turns → Limits → StageValue → List StageValue �
 MayStandAfter turns limits final closed before after =
     (after ≡ Some (backed turns closed before))
     ⊎ ((t : StageValue) × IsClosing limits final t × (k : ℕ)
-        × (after ≡ Some (written (next_backup turns closed) (take k (text_of_stage t)) (backed turns closed before))))
+    × (after ≡ Some (written (next_backup turns closed) (take k (text_of_stage t)) (backed turns closed before))))
 
 -- the files have the backups of the first norms that the walk closes, and that of one more may be torn
 abbrev pub HasFirstBackups : Turns → Limits → Lifted → Files → Option Files → Type 0
@@ -113,3 +114,13 @@ AreSolutions S rows = AllByRecursion (IsSolution S) rows
 abbrev pub IsSoundFrom : Start → Finish → Type 0
 IsSoundFrom (Fresh S) f = ⊤
 IsSoundFrom (Resumed s slot) f = AreSolutions f.system.equations f.rows.rows
+
+-- ---- one backup is always whole
+-- after any backups, whatever a further one leaves in its file, the last of them stands whole in the other file
+abbrev pub OneStands : Type 0
+OneStands =
+    (first second : List ℕ) (stages : List StageValue) (last : StageValue) (files : Files) (torn : List ℕ)
+    → (first ≡ second → ⊥)
+    → (name : List ℕ)
+    × (get (written (slice_index_or (names_after (first ∷ second ∷ []) (stages ++ last ∷ [])) 0 []) torn
+    (written_in_turn (first ∷ second ∷ []) (stages ++ last ∷ []) files)) name ≡ Some (text_of_stage last))

@@ -1,4 +1,5 @@
--- What the ends of a run say: it was stopped or broke off, the writing of its outputs was cut, or all is written.
+-- What the ends of a run say: it was stopped or broke off, the writing of its outputs was cut, or
+-- all is written.
 use Rattle.std.proofs.Common.{◌≡◌, ◌≢◌, ◌⊎◌, inl, inr, ℕ, List, [], ◌∷◌, Bool, true, false, Option, None, Some, Result, Ok, Err, IfSome, IsOkAnd, IsErrAnd, refl, ap, sym, subst, ◌∙◌}
 use Rattle.std.specs.Prelude.{ℤ}
 use Rattle.std.specs.Option.{option_map}
@@ -42,36 +43,56 @@ use Rattle.tool_top.proofs.Conclusions.{traces, EndsOver, at_error}
 none_backed : (turns : Turns) (files : Files) → backed turns [] files ≡ files
 none_backed turns files = none_of turns.interval turns.names files
   where
-    none_of : (interval : Option ℕ) (names : List (List ℕ)) (files : Files) → backed (record { interval = interval; names = names }) [] files ≡ files
+    none_of : (interval : Option ℕ) (names : List (List ℕ)) (files : Files)
+        → backed (record { interval = interval; names = names }) [] files ≡ files
     none_of None names files = refl
     none_of (Some n) names files = refl
 
 -- a run that came to its end has left the first backups too
-left_first : (turns : Turns) (limits : Limits) (from : Lifted) (end : LiftEnd) (before : Files) (after : Option Files) → LeavesFrom turns limits from (Some end) before after → LeavesFrom turns limits from None before after
+left_first : (turns : Turns) (limits : Limits) (from : Lifted) (end : LiftEnd) (before : Files)
+    (after : Option Files) → LeavesFrom turns limits from (Some end) before after
+    → LeavesFrom turns limits from None before after
 left_first turns limits (Next s) end before after h = (h.closed, h.closes.0, h.closes.1, inl h.files)
-left_first turns limits (Last f) end before after h = h.files ∙ ap (λ (l : List StageValue). Some (backed turns l before)) h.closes ∙ ap (λ (x : Files). Some x) (none_backed turns before)
+left_first turns limits (Last f) end before after h = h.files ∙ ap (λ (l : List StageValue). Some
+    (backed turns l before)) h.closes ∙ ap (λ (x : Files). Some x) (none_backed turns before)
 
-pub broken_off : (turns : Turns) (limits : Limits) (start : Start) (end : LiftEnd) (before : Files) (after : Option Files) → LeavesRun turns limits start (Some end) before after → LeavesRun turns limits start None before after
-broken_off turns limits start end before after (inl h) = inl (h.0, h.1, left_first turns limits h.0 end before after h.2)
+pub broken_off : (turns : Turns) (limits : Limits) (start : Start) (end : LiftEnd) (before : Files)
+    (after : Option Files) → LeavesRun turns limits start (Some end) before after
+    → LeavesRun turns limits start None before after
+broken_off turns limits start end before after (inl h) = inl (
+  h.0,
+  h.1,
+  left_first turns limits h.0
+      end before after h.2,
+)
 broken_off turns limits start end before after (inr h) = absurd (let e : Some end ≡ None = h.0 in cc)
 
 -- the files stand, where an end is named
-stand_from : (turns : Turns) (limits : Limits) (from : Lifted) (end : LiftEnd) (before : Files) (after : Option Files) → LeavesFrom turns limits from (Some end) before after → (files : Files) × (after ≡ Some files)
+stand_from : (turns : Turns) (limits : Limits) (from : Lifted) (end : LiftEnd) (before : Files)
+    (after : Option Files) → LeavesFrom turns limits from (Some end) before after
+    → (files : Files) × (after ≡ Some files)
 stand_from turns limits from end before after h = (backed turns h.closed before, h.files)
 
-pub stand : (turns : Turns) (limits : Limits) (start : Start) (end : LiftEnd) (before : Files) (after : Option Files) → LeavesRun turns limits start (Some end) before after → (files : Files) × (after ≡ Some files)
+pub stand : (turns : Turns) (limits : Limits) (start : Start) (end : LiftEnd) (before : Files)
+    (after : Option Files) → LeavesRun turns limits start (Some end) before after
+    → (files : Files) × (after ≡ Some files)
 stand turns limits start end before after (inl h) = stand_from turns limits h.0 end before after h.2
 stand turns limits start end before after (inr h) = absurd (let e : Some end ≡ None = h.0 in cc)
 
 -- the names and the interval of a job's run are those of the job
-pub leaves-job : (job : Job) (s : Start) (interval : Option ℕ) (first second : List ℕ) (named : Option LiftEnd) (held new : Option Files) → interval ≡ interval_for job.tables job.backup
+pub leaves-job : (job : Job) (s : Start) (interval : Option ℕ) (first second : List ℕ) (named :
+    Option LiftEnd) (held new : Option Files) → interval ≡ interval_for job.tables job.backup
     → first ≡ file_name (project_of job) Ckp0 → second ≡ file_name (project_of job) Ckp1
-    → IfSome held (λ files. LeavesRun (turns_from (first_slot s) interval first second) (limits_of job) s named files new)
+    → IfSome held (λ files. LeavesRun (turns_from (first_slot s) interval first second) (limits_of
+    job) s named files new)
     → IfSome held (λ files. LeavesRun (turns_for job s) (limits_of job) s named files new)
 leaves-job job s interval first second named held new i a b h =
-    subst (λ x. IfSome held (λ files. LeavesRun (turns_from (first_slot s) x (file_name (project_of job) Ckp0) (file_name (project_of job) Ckp1)) (limits_of job) s named files new)) i
-    (subst (λ x. IfSome held (λ files. LeavesRun (turns_from (first_slot s) interval x (file_name (project_of job) Ckp1)) (limits_of job) s named files new)) a
-    (subst (λ x. IfSome held (λ files. LeavesRun (turns_from (first_slot s) interval first x) (limits_of job) s named files new)) b h))
+    subst (λ x. IfSome held (λ files. LeavesRun (turns_from (first_slot s) x (file_name (project_of
+    job) Ckp0) (file_name (project_of job) Ckp1)) (limits_of job) s named files new)) i
+    (subst (λ x. IfSome held (λ files. LeavesRun (turns_from (first_slot s) interval x (file_name
+    (project_of job) Ckp1)) (limits_of job) s named files new)) a
+    (subst (λ x. IfSome held (λ files. LeavesRun (turns_from (first_slot s) interval first x)
+    (limits_of job) s named files new)) b h))
 
 -- ---- a run that did not finish
 -- it fails at a restart file alone
@@ -79,7 +100,8 @@ slot_part : (P : Part → Type 0) (slot : Slot) → P Ckp0 → P Ckp1 → P (par
 slot_part P First a b = a
 slot_part P Second a b = b
 
-fault_at : (next : Slot) (e : RunEnd) (A : Type 0) (p : Part) → (e ≡ RunFailed → A) → end_of_run next e ≡ Outside p → A
+fault_at : (next : Slot) (e : RunEnd) (A : Type 0) (p : Part) → (e ≡ RunFailed → A)
+    → end_of_run next e ≡ Outside p → A
 fault_at next (RunOverflow k place) A p failed is = absurd (cc)
 fault_at next (RunPairs k d n) A p failed is = absurd (cc)
 fault_at next (RunRows k d n) A p failed is = absurd (cc)
@@ -87,7 +109,8 @@ fault_at next RunFailed A p failed is = failed refl
 fault_at next RunMemory A p failed is = absurd (cc)
 
 -- a failure of the run rests on the folder's count
-pub run_fault : (r : Result Totals End) (s : Stopped) (A : Type 0) (p : Part) → IsErrAnd r (λ y. y ≡ end_of_stopped s) → (s.end ≡ RunFailed → A) → end_of r ≡ Outside p → A
+pub run_fault : (r : Result Totals End) (s : Stopped) (A : Type 0) (p : Part)
+    → IsErrAnd r (λ y. y ≡ end_of_stopped s) → (s.end ≡ RunFailed → A) → end_of r ≡ Outside p → A
 run_fault (Ok totals) s A p err failed is = absurd err
 run_fault (Err y) s A p err failed is = fault_at s.next s.end A p failed (sym err ∙ is)
 
@@ -99,7 +122,8 @@ out_at First RunFailed is = absurd (cc)
 out_at Second RunFailed is = absurd (cc)
 out_at next RunMemory is = absurd (cc)
 
-pub run_not_out : (r : Result Totals End) (s : Stopped) → IsErrAnd r (λ y. y ≡ end_of_stopped s) → end_of r ≡ Outside Out → ⊥
+pub run_not_out : (r : Result Totals End) (s : Stopped) → IsErrAnd r (λ y. y ≡ end_of_stopped s)
+    → end_of r ≡ Outside Out → ⊥
 run_not_out (Ok totals) s err is = absurd err
 run_not_out (Err y) s err is = out_at s.next s.end (sym err ∙ is)
 
@@ -110,129 +134,235 @@ usage_at next (RunRows k d n) is = absurd (cc)
 usage_at next RunFailed is = absurd (cc)
 usage_at next RunMemory is = absurd (cc)
 
-pub run_not_usage : (r : Result Totals End) (s : Stopped) → IsErrAnd r (λ y. y ≡ end_of_stopped s) → end_of r ≡ Usage → ⊥
+pub run_not_usage : (r : Result Totals End) (s : Stopped)
+    → IsErrAnd r (λ y. y ≡ end_of_stopped s) → end_of r ≡ Usage → ⊥
 run_not_usage (Ok totals) s err is = absurd err
 run_not_usage (Err y) s err is = usage_at s.next s.end (sym err ∙ is)
 
-tells_at : (job : Option Job) (told : Option (List ℕ)) (next : Slot) (e : RunEnd) → Tells job told told (end_of_run next e)
+tells_at : (job : Option Job) (told : Option (List ℕ)) (next : Slot) (e : RunEnd)
+    → Tells job told told (end_of_run next e)
 tells_at job told next (RunOverflow k place) = refl
 tells_at job told next (RunPairs k d n) = refl
 tells_at job told next (RunRows k d n) = refl
 tells_at job told next RunFailed = inl refl
 tells_at job told next RunMemory = inl refl
 
-pub tells-run : (job : Option Job) (told : Option (List ℕ)) (r : Result Totals End) (s : Stopped) → IsErrAnd r (λ y. y ≡ end_of_stopped s) → Tells job told told (end_of r)
-tells-run job told r s err = at_error (Tells job told told) r (end_of_stopped s) err (tells_at job told s.next s.end)
+pub tells-run : (job : Option Job) (told : Option (List ℕ)) (r : Result Totals End) (s : Stopped)
+    → IsErrAnd r (λ y. y ≡ end_of_stopped s) → Tells job told told (end_of r)
+tells-run job told r s err = at_error (Tells job told told) r (end_of_stopped s) err (tells_at job
+    told s.next s.end)
 
 module _ (tool : Tool) (job : Job) (input : Input) (stored : Stored) where
   abbrev the_plan : Plan
   the_plan = record { job = job; tool = tool; input = input; stored = stored }
 
   module _ (s : Start) (starts : StartsAs the_plan s) where
-    broke : (t : Traces) → BacksUp the_plan s None t.files_before t.files_after → t.out_after ≡ t.out_before → (slot : Slot) → LeavesCut (Ok the_plan) t (part_of_slot slot)
+    broke : (t : Traces) → BacksUp the_plan s None t.files_before t.files_after
+        → t.out_after ≡ t.out_before → (slot : Slot) → LeavesCut (Ok the_plan) t (part_of_slot slot)
     broke t files out First = inr (record { start = s; starts = starts; files = files; out = out })
     broke t files out Second = inr (record { start = s; starts = starts; files = files; out = out })
 
-    run_ends : (next : Slot) (e : RunEnd) → IfSome (end_of_error e) (StartComesTo (limits_of job) s) → (t : Traces)
-        → BacksUp the_plan s (end_of_error e) t.files_before t.files_after → t.out_after ≡ t.out_before → Ends (Ok the_plan) t (end_of_run next e)
-    run_ends next (RunOverflow k (Row v)) c t files out = record { comes = (s, starts, c); leaves = record { start = s; starts = starts; comes = c; files = files; out = out } }
-    run_ends next (RunOverflow k (Norm d)) c t files out = record { comes = (s, starts, c); leaves = record { start = s; starts = starts; comes = c; files = files; out = out } }
-    run_ends next (RunPairs k d n) c t files out = record { comes = (s, starts, c); leaves = record { start = s; starts = starts; comes = c; files = files; out = out } }
-    run_ends next (RunRows k d n) c t files out = record { comes = (s, starts, c); leaves = record { start = s; starts = starts; comes = c; files = files; out = out } }
+    run_ends : (next : Slot) (e : RunEnd) → IfSome (end_of_error e) (StartComesTo (limits_of job) s)
+        → (t : Traces)
+        → BacksUp the_plan s (end_of_error e) t.files_before t.files_after
+        → t.out_after ≡ t.out_before → Ends (Ok the_plan) t (end_of_run next e)
+    run_ends next (RunOverflow k (Row v)) c t files out = record {
+      comes = (s, starts, c);
+      leaves =
+          record { start = s; starts = starts; comes = c; files = files; out = out };
+    }
+    run_ends next (RunOverflow k (Norm d)) c t files out = record {
+      comes = (s, starts, c);
+      leaves =
+          record { start = s; starts = starts; comes = c; files = files; out = out };
+    }
+    run_ends next (RunPairs k d n) c t files out = record {
+      comes = (s, starts, c);
+      leaves = record
+          { start = s; starts = starts; comes = c; files = files; out = out };
+    }
+    run_ends next (RunRows k d n) c t files out = record {
+      comes = (s, starts, c);
+      leaves = record {
+        start = s;
+        starts = starts;
+        comes = c;
+        files = files;
+        out = out;
+      };
+    }
     run_ends next RunFailed c t files out = record { comes = tt; leaves = broke t files out next }
     run_ends next RunMemory c t files out = record { comes = tt; leaves = (Ckp0, broke t files out First) }
 
-    run_over : (held new : Option Files) (told : Option (List ℕ)) (e : Stopped) → IfSome (end_of_error e.end) (StartComesTo (limits_of job) s)
-        → IfSome held (λ files. LeavesRun (turns_for job s) (limits_of job) s (end_of_error e.end) files new) → EndsOver (Ok the_plan) held new told told (end_of_stopped e)
+    run_over : (held new : Option Files) (told : Option (List ℕ)) (e : Stopped)
+        → IfSome (end_of_error e.end) (StartComesTo (limits_of job) s)
+        → IfSome held (λ files. LeavesRun (turns_for job s) (limits_of job) s (end_of_error e.end)
+        files new) → EndsOver (Ok the_plan) held new told told (end_of_stopped e)
     run_over None new told e c files = tt
-    run_over (Some before) new told e c files = run_ends e.next e.end c (traces before new told told) files refl
+    run_over (Some before) new told e c files = run_ends e.next e.end c (traces before new told
+        told) files refl
 
-    pub ends-run : (held new : Option Files) (told : Option (List ℕ)) (e : Stopped) (r : Result Totals End) → IfSome (end_of_error e.end) (StartComesTo (limits_of job) s)
-        → IfSome held (λ files. LeavesRun (turns_for job s) (limits_of job) s (end_of_error e.end) files new) → IsErrAnd r (λ y. y ≡ end_of_stopped e)
+    pub ends-run : (held new : Option Files) (told : Option (List ℕ)) (e : Stopped) (r : Result
+        Totals End) → IfSome (end_of_error e.end) (StartComesTo (limits_of job) s)
+        → IfSome held (λ files. LeavesRun (turns_for job s) (limits_of job) s (end_of_error e.end)
+        files new) → IsErrAnd r (λ y. y ≡ end_of_stopped e)
         → EndsOver (Ok the_plan) held new told told (end_of r)
-    ends-run held new told e r c files err = at_error (EndsOver (Ok the_plan) held new told told) r (end_of_stopped e) err (run_over held new told e c files)
+    ends-run held new told e r c files err = at_error (EndsOver (Ok the_plan) held new told told) r
+        (end_of_stopped e) err (run_over held new told e c files)
 
     -- the run is finished, and memory ran out before its outputs
-    memory_over : (held new : Option Files) (told : Option (List ℕ)) (end : LiftEnd) → IfSome held (λ files. LeavesRun (turns_for job s) (limits_of job) s (Some end) files new) → EndsOver (Ok the_plan) held new told told Memory
+    memory_over : (held new : Option Files) (told : Option (List ℕ)) (end : LiftEnd)
+        → IfSome held (λ files. LeavesRun (turns_for job s) (limits_of job) s (Some end) files new)
+        → EndsOver (Ok the_plan) held new told told Memory
     memory_over None new told end files = tt
-    memory_over (Some before) new told end files = record { comes = tt; leaves = (Ckp0, broke (traces before new told told) (broken_off (turns_for job s) (limits_of job) s end before new files) refl First) }
+    memory_over (Some before) new told end files = record {
+      comes = tt;
+      leaves = (
+        Ckp0,
+        broke
+            (traces before new told told) (broken_off (turns_for job s) (limits_of job) s end before new
+            files) refl First,
+      );
+    }
 
-    pub ends-memory : (held new : Option Files) (told : Option (List ℕ)) (end : LiftEnd) (r : Result Totals End) → IfSome held (λ files. LeavesRun (turns_for job s) (limits_of job) s (Some end) files new)
+    pub ends-memory : (held new : Option Files) (told : Option (List ℕ)) (end : LiftEnd) (r : Result
+        Totals End) → IfSome held (λ files. LeavesRun (turns_for job s) (limits_of job) s (Some end)
+        files new)
         → IsErrAnd r (λ y. y ≡ Memory) → EndsOver (Ok the_plan) held new told told (end_of r)
-    ends-memory held new told end r files err = at_error (EndsOver (Ok the_plan) held new told told) r Memory err (memory_over held new told end files)
+    ends-memory held new told end r files err = at_error (EndsOver (Ok the_plan) held new told told)
+        r Memory err (memory_over held new told end files)
 
 -- ---- the writing was cut
 -- what holds of the output files holds of the one that was cut
-cut_part : (tool : Tool) (S : ToolSystem) (rows : List (List ℤ)) (project : List ℕ) (files : List OutputFile) (part : Part) (old new : Option Files) → AreSelectedOf tool S rows files
+cut_part : (tool : Tool) (S : ToolSystem) (rows : List (List ℤ)) (project : List ℕ) (files : List
+    OutputFile) (part : Part) (old new : Option Files) → AreSelectedOf tool S rows files
     → IsCutAt project files part old new → (P : Part → Type 0) → P Gra → P Hil → P Zhom → P Zinhom → P part
 cut_part Graver S rows project files part old new w cut P gra hil zhom zinhom =
-    let at : IsCutAt project (file_of Gra S.n w.0 ∷ []) part old new = subst (λ fs. IsCutAt project fs part old new) w.2 cut in
+    let at : IsCutAt project (file_of Gra S.n w.0 ∷ []) part old new = subst (λ fs. IsCutAt project
+    fs part old new) w.2 cut in
     elim at [ inl h ↦ subst P (sym h.0) gra | inr h ↦ absurd h ]
 cut_part Hilbert S rows project files part old new w cut P gra hil zhom zinhom =
-    let at : IsCutAt project (file_of Hil S.n w.0 ∷ []) part old new = subst (λ fs. IsCutAt project fs part old new) w.2 cut in
+    let at : IsCutAt project (file_of Hil S.n w.0 ∷ []) part old new = subst (λ fs. IsCutAt project
+    fs part old new) w.2 cut in
     elim at [ inl h ↦ subst P (sym h.0) hil | inr h ↦ absurd h ]
 cut_part Zsolve S rows project files part old new w cut P gra hil zhom zinhom =
-    let at : IsCutAt project (file_of Zhom S.n w.0 ∷ file_of Zinhom S.n w.1 ∷ []) part old new = subst (λ fs. IsCutAt project fs part old new) w.4 cut in
-    elim at [ inl h ↦ subst P (sym h.0) zhom | inr h ↦ elim h [ inl k ↦ subst P (sym k.0) zinhom | inr k ↦ absurd k ] ]
+    let at : IsCutAt project (file_of Zhom S.n w.0 ∷ file_of Zinhom S.n w.1 ∷ []) part old new =
+    subst (λ fs. IsCutAt project fs part old new) w.4 cut in
+    elim at [
+      | inl h ↦ subst P (sym h.0) zhom
+      | inr h ↦ elim h [
+        | inl k ↦ subst P (sym k.0) zinhom
+        | inr k ↦ absurd k
+      ]
+    ]
 
 -- with tables no file is written, and so none is cut
-cut_written : (project : List ℕ) (tables : Option ℕ) (outputs : List OutputFile) (part : Part) (old new : Option Files) → IsCutAt project (to_write tables outputs) part old new → IsCutAt project outputs part old new
+cut_written : (project : List ℕ) (tables : Option ℕ) (outputs : List OutputFile) (part : Part) (old
+    new : Option Files) → IsCutAt project (to_write tables outputs) part old new
+    → IsCutAt project outputs part old new
 cut_written project None outputs part old new cut = cut
 cut_written project (Some k) outputs part old new cut = absurd cut
 
 -- no output file is standard output
-pub cut_is_not_out : (S : ToolSystem) (rows : List (List ℤ)) (project : List ℕ) (tables : Option ℕ) (outputs : List OutputFile) → AreSelectedOf S.tool S rows outputs → (r : Result Totals End) (e : End) (old new : Option Files)
-    → CutsTo project (to_write tables outputs) old new e → IsErrAnd r (λ y. y ≡ e) → end_of r ≡ Outside Out → ⊥
+pub cut_is_not_out : (S : ToolSystem) (rows : List (List ℤ)) (project : List ℕ) (tables : Option ℕ)
+    (outputs : List OutputFile) → AreSelectedOf S.tool S rows outputs
+    → (r : Result Totals End) (e : End) (old new : Option Files)
+    → CutsTo project (to_write tables outputs) old new e → IsErrAnd r (λ y. y ≡ e)
+    → end_of r ≡ Outside Out → ⊥
 cut_is_not_out S rows project tables outputs selected (Ok totals) e old new cut err is = absurd err
 cut_is_not_out S rows project tables outputs selected (Err y) e old new cut err is =
-    let at : IsCutAt project (to_write tables outputs) Out old new = subst (CutsTo project (to_write tables outputs) old new) (sym err ∙ is) cut in
-    cut_part S.tool S rows project outputs Out old new selected (cut_written project tables outputs Out old new at)
+    let at : IsCutAt project (to_write tables outputs) Out old new = subst (CutsTo project (to_write
+    tables outputs) old new) (sym err ∙ is) cut in
+    cut_part S.tool S rows project outputs Out old new selected (cut_written project tables outputs
+    Out old new at)
     (λ q. q ≡ Out → ⊥) (λ p. cc) (λ p. cc) (λ p. cc) (λ p. cc) refl
 
 -- ---- a run that is finished
-module _ (tool : Tool) (job : Job) (input : Input) (stored : Stored) (S : ToolSystem) (rows : List (List ℤ)) (outputs : List OutputFile) (selected : AreSelectedOf S.tool S rows outputs)
-    (used : ℕ) (finishes : Finishes (record { job = job; tool = tool; input = input; stored = stored }) used outputs) where
+module _ (tool : Tool) (job : Job) (input : Input) (stored : Stored) (S : ToolSystem) (rows : List
+    (List ℤ)) (outputs : List OutputFile) (selected : AreSelectedOf S.tool S rows outputs)
+    (used : ℕ) (finishes : Finishes (record {
+      job = job;
+      tool = tool;
+      input = input;
+      stored = stored;
+    }) used outputs) where
   abbrev its_plan : Plan
   its_plan = record { job = job; tool = tool; input = input; stored = stored }
 
   abbrev LeavesFinished : Option Files → Option Files → Type 0
-  LeavesFinished held mid = IfSome held (λ files. LeavesRun (turns_for job finishes.start) (limits_of job) finishes.start (Some (finished finishes.rows used)) files mid)
+  LeavesFinished held mid = IfSome held (λ files. LeavesRun (turns_for job finishes.start)
+      (limits_of job) finishes.start (Some (finished finishes.rows used)) files mid)
 
   abbrev BackedUp : Files → Files → Type 0
   BackedUp before mid = BacksUp its_plan finishes.start (Some (finished finishes.rows used)) before (Some mid)
 
   -- with the files that stand after the run
-  with_files : (before : Files) (mid : Option Files) (P : Option Files → Type 0) → BacksUp its_plan finishes.start (Some (finished finishes.rows used)) before mid
+  with_files : (before : Files) (mid : Option Files) (P : Option Files → Type 0)
+      → BacksUp its_plan finishes.start (Some (finished finishes.rows used)) before mid
       → ((files : Files) → BackedUp before files → P (Some files)) → P mid
   with_files before mid P left follows =
-      let s : (files : Files) × (mid ≡ Some files) = stand (turns_for job finishes.start) (limits_of job) finishes.start (finished finishes.rows used) before mid left in
-      subst P (sym s.1) (follows s.0 (subst (λ (m : Option Files). BacksUp its_plan finishes.start (Some (finished finishes.rows used)) before m) s.1 left))
+      let s : (files : Files) × (mid ≡ Some files) = stand (turns_for job finishes.start) (limits_of
+      job) finishes.start (finished finishes.rows used) before mid left in
+      subst P (sym s.1) (follows s.0 (subst (λ (m : Option Files). BacksUp its_plan finishes.start
+      (Some (finished finishes.rows used)) before m) s.1 left))
 
-  cut_leaves : (before mid : Files) (new : Option Files) (told : Option (List ℕ)) (part : Part) → BackedUp before mid → IsCutAt (project_of job) (to_write job.tables outputs) part (Some mid) new
+  cut_leaves : (before mid : Files) (new : Option Files) (told : Option (List ℕ)) (part : Part)
+      → BackedUp before mid → IsCutAt (project_of job) (to_write job.tables outputs) part (Some mid) new
       → LeavesCut (Ok its_plan) (traces before new told told) part
   cut_leaves before mid new told part left cut =
-      let P : Part → Type 0 = λ q. IsCutInFile its_plan (traces before new told told) q → LeavesCut (Ok its_plan) (traces before new told told) q in
-      let back : P part = cut_part S.tool S rows (project_of job) outputs part (Some mid) new selected (cut_written (project_of job) job.tables outputs part (Some mid) new cut) P (λ h. h) (λ h. h) (λ h. h) (λ h. h) in
-      back (record { pairs = used; outputs = outputs; finishes = finishes; files = mid; backups = left; cut = cut; out = refl })
+      let P : Part → Type 0 = λ q. IsCutInFile its_plan (traces before new told told) q
+      → LeavesCut (Ok its_plan) (traces before new told told) q in
+      let back : P part = cut_part S.tool S rows (project_of job) outputs part (Some mid) new
+      selected (cut_written (project_of job) job.tables outputs part (Some mid) new cut) P (λ h.
+      h) (λ h. h) (λ h. h) (λ h. h) in
+      back (record {
+        pairs = used;
+        outputs = outputs;
+        finishes = finishes;
+        files = mid;
+        backups =
+            left;
+        cut = cut;
+        out = refl;
+      })
 
-  cut_ends : (before mid : Files) (new : Option Files) (told : Option (List ℕ)) (e : End) → BackedUp before mid → CutsTo (project_of job) (to_write job.tables outputs) (Some mid) new e
+  cut_ends : (before mid : Files) (new : Option Files) (told : Option (List ℕ)) (e : End)
+      → BackedUp before mid → CutsTo (project_of job) (to_write job.tables outputs) (Some mid) new e
       → Ends (Ok its_plan) (traces before new told told) e
-  cut_ends before mid new told (Outside part) left h = record { comes = tt; leaves = cut_leaves before mid new told part left h }
-  cut_ends before mid new told Memory left h = record { comes = tt; leaves = (h.0, cut_leaves before mid new told h.0 left h.1) }
+  cut_ends before mid new told (Outside part) left h = record {
+    comes = tt;
+    leaves = cut_leaves
+        before mid new told part left h;
+  }
+  cut_ends before mid new told Memory left h = record {
+    comes = tt;
+    leaves = (
+      h.0,
+      cut_leaves before
+          mid new told h.0 left h.1,
+    );
+  }
   cut_ends before mid new told e left h = absurd h
 
-  cut_over : (held mid new : Option Files) (told : Option (List ℕ)) (e : End) → LeavesFinished held mid → CutsTo (project_of job) (to_write job.tables outputs) mid new e → EndsOver (Ok its_plan) held new told told e
+  cut_over : (held mid new : Option Files) (told : Option (List ℕ)) (e : End)
+      → LeavesFinished held mid → CutsTo (project_of job) (to_write job.tables outputs) mid new e
+      → EndsOver (Ok its_plan) held new told told e
   cut_over None mid new told e left h = tt
   cut_over (Some before) mid new told e left h =
-      with_files before mid (λ m. CutsTo (project_of job) (to_write job.tables outputs) m new e → Ends (Ok its_plan) (traces before new told told) e) left
+      with_files before mid (λ m. CutsTo (project_of job) (to_write job.tables outputs) m new e
+      → Ends (Ok its_plan) (traces before new told told) e) left
       (λ files backups cut. cut_ends before files new told e backups cut) h
 
-  pub ends-cut : (held mid new : Option Files) (told : Option (List ℕ)) (e : End) (r : Result Totals End) → LeavesFinished held mid → CutsTo (project_of job) (to_write job.tables outputs) mid new e
+  pub ends-cut : (held mid new : Option Files) (told : Option (List ℕ)) (e : End) (r : Result Totals
+      End) → LeavesFinished held mid → CutsTo (project_of job) (to_write job.tables outputs) mid new e
       → IsErrAnd r (λ y. y ≡ e) → EndsOver (Ok its_plan) held new told told (end_of r)
-  ends-cut held mid new told e r left h err = at_error (EndsOver (Ok its_plan) held new told told) r e err (cut_over held mid new told e left h)
+  ends-cut held mid new told e r left h err = at_error (EndsOver (Ok its_plan) held new told told) r
+      e err (cut_over held mid new told e left h)
 
   -- ---- all is written, and the summary was put or cut
-  told_ends : (before mid : Files) (new : Option Files) (told tells : Option (List ℕ)) (r : Result Totals End) → BackedUp before mid → new ≡ Some (written_all (project_of job) (to_write job.tables outputs) mid)
+  told_ends : (before mid : Files) (new : Option Files) (told tells : Option (List ℕ)) (r : Result
+      Totals End) → BackedUp before mid → new ≡ Some (written_all (project_of job) (to_write
+      job.tables outputs) mid)
       → TellsOf job outputs used told tells r → Ends (Ok its_plan) (traces before new told tells) (end_of r)
   told_ends before mid new told tells (Ok totals) left whole h = record {
     comes = record {
@@ -242,36 +372,76 @@ module _ (tool : Tool) (job : Job) (input : Input) (stored : Stored) (S : ToolSy
       norms_are = h.norms_are;
     };
     leaves = record {
-      written = record { pairs = used; outputs = outputs; finishes = finishes; files = mid; backups = left; whole = whole };
+      written = record {
+        pairs = used;
+        outputs = outputs;
+        finishes = finishes;
+        files = mid;
+        backups
+            = left;
+        whole = whole;
+      };
       out = h.out;
     };
   }
   told_ends before mid new told tells (Err (Outside part)) left whole h = record {
     comes = tt;
     leaves = subst (LeavesCut (Ok its_plan) (traces before new told tells)) (sym h.0)
-        (record { pairs = used; outputs = outputs; finishes = finishes; files = mid; backups = left; whole = whole; out = h.1 });
+        (record {
+          pairs = used;
+          outputs = outputs;
+          finishes = finishes;
+          files = mid;
+          backups = left;
+          whole = whole;
+          out = h.1;
+        });
   }
   told_ends before mid new told tells (Err Memory) left whole h = record {
     comes = tt;
-    leaves = (Out, record { pairs = used; outputs = outputs; finishes = finishes; files = mid; backups = left; whole = whole; out = h });
+    leaves = (
+      Out,
+      record {
+        pairs = used;
+        outputs = outputs;
+        finishes = finishes;
+        files = mid;
+        backups = left;
+        whole = whole;
+        out = h;
+      },
+    );
   }
   told_ends before mid new told tells (Err e) left whole h = absurd h
 
-  told_over : (held mid new : Option Files) (told tells : Option (List ℕ)) (r : Result Totals End) → LeavesFinished held mid → new ≡ option_map (written_all (project_of job) (to_write job.tables outputs)) mid
+  told_over : (held mid new : Option Files) (told tells : Option (List ℕ)) (r : Result Totals End) →
+      LeavesFinished held mid → new ≡ option_map (written_all (project_of job) (to_write job.tables
+      outputs)) mid
       → TellsOf job outputs used told tells r → EndsOver (Ok its_plan) held new told tells (end_of r)
   told_over None mid new told tells r left whole h = tt
   told_over (Some before) mid new told tells r left whole h =
-      with_files before mid (λ m. new ≡ option_map (written_all (project_of job) (to_write job.tables outputs)) m → Ends (Ok its_plan) (traces before new told tells) (end_of r)) left
+      with_files before mid (λ m. new ≡ option_map (written_all (project_of job) (to_write
+      job.tables outputs)) m → Ends (Ok its_plan) (traces before new told tells) (end_of r)) left
       (λ files backups w. told_ends before files new told tells r backups w h) whole
 
-  pub ends-told : (held mid new : Option Files) (told tells : Option (List ℕ)) (r : Result Totals End) → LeavesFinished held mid → new ≡ option_map (written_all (project_of job) (to_write job.tables outputs)) mid
+  pub ends-told : (held mid new : Option Files) (told tells : Option (List ℕ)) (r : Result Totals
+      End) → LeavesFinished held mid → new ≡ option_map (written_all (project_of job) (to_write
+      job.tables outputs)) mid
       → TellsOf job outputs used told tells r → EndsOver (Ok its_plan) held new told tells (end_of r)
   ends-told held mid new told tells r left whole h = told_over held mid new told tells r left whole h
 
 -- ---- what standard output has gained
-pub tells-told : (job : Job) (outputs : List OutputFile) (used : ℕ) (told tells : Option (List ℕ)) (r : Result Totals End) → TellsOf job outputs used told tells r → Tells (Some job) told tells (end_of r)
+pub tells-told : (job : Job) (outputs : List OutputFile) (used : ℕ) (told tells : Option (List ℕ))
+    (r : Result Totals End) → TellsOf job outputs used told tells r → Tells (Some job) told tells (end_of r)
 tells-told job outputs used told tells (Ok totals) h = h.out
-tells-told job outputs used told tells (Err (Outside part)) h = inr (h.0, (rows_in outputs, used, norms_in outputs, h.1))
+tells-told job outputs used told tells (Err (Outside part)) h = inr (
+  h.0,
+  (
+    rows_in outputs,
+    used,
+    norms_in outputs,
+    h.1,
+  ),
+)
 tells-told job outputs used told tells (Err Memory) h = inr (rows_in outputs, used, norms_in outputs, h)
 tells-told job outputs used told tells (Err e) h = absurd h
-

@@ -35,16 +35,19 @@ pub record IsUntouched (t : Traces) : Type 0 where
   pub out : t.out_after ≡ t.out_before
 
 -- ---- restart files
--- how often the job's run writes a restart file, and the two names in turn: the first backup of a resumed run goes to the file
+-- how often the job's run writes a restart file, and the two names in turn: the first backup of a
+-- resumed run goes to the file
 -- that was not taken
 abbrev pub turns_for : Job → Start → Turns
 turns_for job start = turns_from (first_slot start) (interval_for job.tables job.backup)
     (file_name (project_of job) Ckp0) (file_name (project_of job) Ckp1)
 
--- the files that the plan's run leaves, all its backups among them, where it comes to this end; where none is named, those of
+-- the files that the plan's run leaves, all its backups among them, where it comes to this end;
+-- where none is named, those of
 -- the first norms that it closes, of which the last may be torn
 abbrev pub BacksUp : Plan → Start → Option LiftEnd → Files → Option Files → Type 0
-BacksUp p start named before after = LeavesRun (turns_for p.job start) (limits_of p.job) start named before after
+BacksUp p start named before after = LeavesRun (turns_for p.job start) (limits_of p.job) start named
+    before after
 
 -- the run came to this end, and nothing was written but its backups
 pub record IsStopped (p : Plan) (t : Traces) (end : LiftEnd) : Type 0 where
@@ -62,7 +65,8 @@ pub record IsBrokenOff (p : Plan) (t : Traces) : Type 0 where
   pub out : t.out_after ≡ t.out_before
 
 -- ---- output files
--- the run is finished, all its backups are whole, all output files hold their texts, and all other files are as before
+-- the run is finished, all its backups are whole, all output files hold their texts, and all other
+-- files are as before
 pub record HasWritten (p : Plan) (before : Files) (after : Option Files) : Type 0 where
   pub pairs : ℕ
   pub outputs : List OutputFile
@@ -76,7 +80,8 @@ pub record IsConcluded (plan : Plan) (t : Traces) (solutions pairs norms : ℕ) 
   pub written : HasWritten plan t.files_before t.files_after
   pub out : t.out_after ≡ append_known t.out_before (summary_of plan.job solutions pairs norms)
 
--- one of the files is as before, empty or has a prefix of its text, those before it are whole, and those after it are as before
+-- one of the files is as before, empty or has a prefix of its text, those before it are whole, and
+-- those after it are as before
 abbrev pub IsCutAt : List ℕ → List OutputFile → Part → Option Files → Option Files → Type 0
 IsCutAt project [] part old new = ⊥
 IsCutAt project (f ∷ fs) part old new =
@@ -104,7 +109,9 @@ pub record IsCutInSummary (p : Plan) (t : Traces) : Type 0 where
   pub out : MayPut (summary_of p.job (rows_in outputs) pairs (norms_in outputs)) t.out_before t.out_after
 
 -- ---- all ends
--- what a fault of this part leaves: of an output file, a prefix of its text may stand there; of standard output, a prefix of the summary; of a restart file, the backups before it, or nothing where it was to be read; of an input file, nothing has changed
+-- what a fault of this part leaves: of an output file, a prefix of its text may stand there; of
+-- standard output, a prefix of the summary; of a restart file, the backups before it, or nothing
+-- where it was to be read; of an input file, nothing has changed
 abbrev pub LeavesCut : Result Plan End → Traces → Part → Type 0
 LeavesCut plan t Ckp0 = IsUntouched t ⊎ IsOkAnd plan (λ p. IsBrokenOff p t)
 LeavesCut plan t Ckp1 = IsUntouched t ⊎ IsOkAnd plan (λ p. IsBrokenOff p t)

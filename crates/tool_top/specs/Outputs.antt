@@ -31,7 +31,8 @@ abbrev pub file_of : Part → ℕ → List (List ℤ) → OutputFile
 file_of part n rows =
     record { part = part; text = text_of_rows n rows; rows = length rows; norms = sum_by norm rows }
 
--- the files of a command, each with exactly the wanted rows of the user's own system: the Graver basis, the Hilbert basis, or the minimal homogeneous and then the minimal inhomogeneous solutions
+-- the files of a command, each with exactly the wanted rows of the user's own system: the Graver
+-- basis, the Hilbert basis, or the minimal homogeneous and then the minimal inhomogeneous solutions
 abbrev pub AreOutputsOf : Tool → UserSystem → ℕ → List OutputFile → Type 0
 AreOutputsOf Graver U n files =
     (rows : List (List ℤ)) × IsWantedGraverForUser U rows × (files ≡ file_of Gra n rows ∷ [])
@@ -63,8 +64,10 @@ AreSoundOf Zsolve S files =
     × ArePartsOfSolutions S Inhomogeneous inhom
     × (files ≡ file_of Zhom S.n hom ∷ file_of Zinhom S.n inhom ∷ [])
 
--- the files of a run from its start. From nothing they have exactly the wanted rows. So they have from the stage of a restart
--- file whose lists are the defined ones, as those of each earlier run of the system are; from any other accepted file each
+-- the files of a run from its start. From nothing they have exactly the wanted rows. So they have
+-- from the stage of a restart
+-- file whose lists are the defined ones, as those of each earlier run of the system are; from any
+-- other accepted file each
 -- row is that of some solution
 abbrev pub AreOutputs : Plan → Start → List OutputFile → Type 0
 AreOutputs p (Fresh S) files = AreOutputsOf p.tool (user_of p) p.input.mat.cols files

@@ -45,11 +45,7 @@ fn put_file_cause<E: Sink>(
 }
 
 // Puts the second file and its cause, behind a semicolon.
-fn put_second_cause<E: Sink>(
-    err: &mut E,
-    project: &str,
-    fault: RestartFault,
-) -> Result<(), PutEnd>
+fn put_second_cause<E: Sink>(err: &mut E, project: &str, fault: RestartFault) -> Result<(), PutEnd>
     ensures done { OnOk result (E.held err.new ≡ append_known (E.held err.old) (text_of_parts (codes "; " ∷ about project.now Part.Ckp1 (cause_of fault)))) }
     ensures refused { OnErr result (MayPut (text_of_parts (codes "; " ∷ about project.now Part.Ckp1 (cause_of fault))) (E.held err.old) (E.held err.new)) }
     ensures cause { HasCause (E.faults err.old) (E.faults err.new) result }

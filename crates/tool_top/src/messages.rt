@@ -47,7 +47,12 @@ fn put_three<E: Sink>(err: &mut E, first: &[u8], second: &[u8], third: &[u8]) ->
 }
 
 // Puts a number between two texts.
-pub(crate) fn put_number<E: Sink>(err: &mut E, before: &[u8], number: u64, after: &[u8]) -> Result<(), PutEnd>
+pub(crate) fn put_number<E: Sink>(
+    err: &mut E,
+    before: &[u8],
+    number: u64,
+    after: &[u8],
+) -> Result<(), PutEnd>
     ensures done { OnOk result (E.held err.new ≡ append_known (E.held err.old) (text_of_parts (before.now ∷ decimal number ∷ after.now ∷ []))) }
     ensures refused { OnErr result (MayPut (text_of_parts (before.now ∷ decimal number ∷ after.now ∷ [])) (E.held err.old) (E.held err.new)) }
     ensures cause { HasCause (E.faults err.old) (E.faults err.new) result }

@@ -10,26 +10,38 @@ use Rattle.backups.proofs.running.run_start.Goals as goal
 
 pub returns-in-Ok-clause-comes : goal.returns-in-Ok-clause-comes
 returns-in-Ok-clause-comes g c =
-    comes_from (bounds c.args.limits) c.args.start c.in-Ok.from (ended c.run_from.result) c.in-Ok.ensures.begins c.run_from.ensures.walk c.run_from.ensures.defined c.in-Ok.ensures.defined
+    comes_from (bounds c.args.limits) c.args.start c.in-Ok.from (ended c.run_from.result)
+    c.in-Ok.ensures.begins c.run_from.ensures.walk c.run_from.ensures.defined c.in-Ok.ensures.defined
 
 pub returns-in-Ok-clause-system : goal.returns-in-Ok-clause-system
-returns-in-Ok-clause-system g c = system_from c.args.start c.in-Ok.from c.run_from.result c.in-Ok.ensures.begins c.run_from.ensures.system
+returns-in-Ok-clause-system g c = system_from c.args.start c.in-Ok.from c.run_from.result
+    c.in-Ok.ensures.begins c.run_from.ensures.system
 
 pub returns-in-Ok-clause-rows : goal.returns-in-Ok-clause-rows
 returns-in-Ok-clause-rows g c = λ d. c.run_from.ensures.rows (c.in-Ok.ensures.defined d)
 
 pub returns-in-Ok-clause-sound : goal.returns-in-Ok-clause-sound
 returns-in-Ok-clause-sound g c =
-    sound_from (bounds c.args.limits) c.args.start c.run_from.result c.begin.ensures.kept (system_from c.args.start c.in-Ok.from c.run_from.result c.in-Ok.ensures.begins c.run_from.ensures.system)
-    (comes_from (bounds c.args.limits) c.args.start c.in-Ok.from (ended c.run_from.result) c.in-Ok.ensures.begins c.run_from.ensures.walk c.run_from.ensures.defined c.in-Ok.ensures.defined)
+    sound_from (bounds c.args.limits) c.args.start c.run_from.result c.begin.ensures.kept
+    (system_from c.args.start c.in-Ok.from c.run_from.result c.in-Ok.ensures.begins
+    c.run_from.ensures.system)
+    (comes_from (bounds c.args.limits) c.args.start c.in-Ok.from (ended c.run_from.result)
+    c.in-Ok.ensures.begins c.run_from.ensures.walk c.run_from.ensures.defined c.in-Ok.ensures.defined)
 
 pub returns-in-Ok-clause-leaves : goal.returns-in-Ok-clause-leaves
 returns-in-Ok-clause-leaves g c =
-    subst (λ (slot : Slot). IfSome (g.F.Folder.held c.args.folder.now) (λ files. LeavesRun (turns_from slot c.args.plan.interval c.args.plan.first.now c.args.plan.second.now) (bounds c.args.limits) c.args.start (named_end c.run_from.result) files (g.F.Folder.held c.run_from.new.folder)))
+    subst (λ (slot : Slot). IfSome (g.F.Folder.held c.args.folder.now) (λ files. LeavesRun
+    (turns_from slot c.args.plan.interval c.args.plan.first.now c.args.plan.second.now) (bounds
+    c.args.limits) c.args.start (named_end c.run_from.result) files (g.F.Folder.held
+    c.run_from.new.folder)))
     c.first_slot-slot.ensures
-    (leaves_from (turns_from c.first_slot-slot.result c.args.plan.interval c.args.plan.first.now c.args.plan.second.now) (bounds c.args.limits) c.args.start c.in-Ok.from (named_end c.run_from.result)
-    (g.F.Folder.held c.args.folder.now) (g.F.Folder.held c.run_from.new.folder) c.in-Ok.ensures.begins c.run_from.ensures.leaves)
+    (leaves_from (turns_from c.first_slot-slot.result c.args.plan.interval c.args.plan.first.now
+    c.args.plan.second.now) (bounds c.args.limits) c.args.start c.in-Ok.from (named_end c.run_from.result)
+    (g.F.Folder.held c.args.folder.now) (g.F.Folder.held c.run_from.new.folder)
+    c.in-Ok.ensures.begins c.run_from.ensures.leaves)
 
 pub returns-in-Err-clause-leaves : goal.returns-in-Err-clause-leaves
 returns-in-Err-clause-leaves g c =
-    leaves_before (turns_from (first_slot c.args.start) c.args.plan.interval c.args.plan.first.now c.args.plan.second.now) (bounds c.args.limits) c.args.start (g.F.Folder.held c.args.folder.now) (g.F.Folder.held c.args.folder.now) refl
+    leaves_before (turns_from (first_slot c.args.start) c.args.plan.interval c.args.plan.first.now
+    c.args.plan.second.now) (bounds c.args.limits) c.args.start (g.F.Folder.held
+    c.args.folder.now) (g.F.Folder.held c.args.folder.now) refl

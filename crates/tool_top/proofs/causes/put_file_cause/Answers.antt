@@ -8,12 +8,20 @@ use Rattle.tool_top.proofs.causes.put_file_cause.Goals as goal
 pub returns-in_err-put_file-clause-refused : goal.returns-in_err-put_file-clause-refused
 returns-in_err-put_file-clause-refused g c =
     let p = err_from_is_err_and c.from_residual.result c.from_residual.ensures.1 in
-    rw p.1 (parts_first (part_name c.args.project.now c.args.part ∷ codes ": " ∷ []) (cause_of c.args.fault) (g.E.Sink.held c.args.err.now) (g.E.Sink.held c.put_file.new.err) c.in_err-put_file.ensures.refused)
+    rw p.1 (parts_first (part_name c.args.project.now c.args.part ∷ codes ": " ∷ []) (cause_of
+    c.args.fault) (g.E.Sink.held c.args.err.now) (g.E.Sink.held c.put_file.new.err)
+    c.in_err-put_file.ensures.refused)
 
 pub returns-clause-done : goal.returns-clause-done
 returns-clause-done g c =
-    on_ok_weaker c.put_cause.result (parts_both (part_name c.args.project.now c.args.part ∷ codes ": " ∷ []) (cause_of c.args.fault) (g.E.Sink.held c.args.err.now) (g.E.Sink.held c.put_file.new.err) (g.E.Sink.held c.put_cause.new.err) c.in_ok-put_file.ensures.done) c.put_cause.ensures.done
+    on_ok_weaker c.put_cause.result (parts_both (part_name c.args.project.now c.args.part ∷ codes
+    ": " ∷ []) (cause_of c.args.fault) (g.E.Sink.held c.args.err.now) (g.E.Sink.held
+    c.put_file.new.err) (g.E.Sink.held c.put_cause.new.err) c.in_ok-put_file.ensures.done)
+    c.put_cause.ensures.done
 
 pub returns-clause-refused : goal.returns-clause-refused
 returns-clause-refused g c =
-    on_err_weaker c.put_cause.result (parts_second (part_name c.args.project.now c.args.part ∷ codes ": " ∷ []) (cause_of c.args.fault) (g.E.Sink.held c.args.err.now) (g.E.Sink.held c.put_file.new.err) (g.E.Sink.held c.put_cause.new.err) c.in_ok-put_file.ensures.done) c.put_cause.ensures.refused
+    on_err_weaker c.put_cause.result (parts_second (part_name c.args.project.now c.args.part ∷ codes
+    ": " ∷ []) (cause_of c.args.fault) (g.E.Sink.held c.args.err.now) (g.E.Sink.held
+    c.put_file.new.err) (g.E.Sink.held c.put_cause.new.err) c.in_ok-put_file.ensures.done)
+    c.put_cause.ensures.refused
