@@ -200,14 +200,17 @@ module _ (U : UserSystem) (none : U.x0 ≡ false) where
   graver_there_at rows us w h y m out =
       let not_row : Contains rows y → ⊥ = λ k. out (rows_there Graver U (pos 0) rows y us h k m.nonzero) in
       let not_negative : IsWrittenForUser U Every (negated y) → ⊥ = λ t.
-          let leads : leads_negative y ≡ true = is_true (leads_negative y) (λ e. not_row ((w.members y).1 (written (pos 0) y m, λ _ i. let f : leads_negative y ≡ true = i in cc))) in
-          let minimal : IsMinimalForUser U (pos 0) (negated y) = subst (λ (k : ℤ). IsMinimalForUser U k (negated y)) (at_zero t.times (negated y) t.minimal) t.minimal in
-          let row : Contains rows (negated y) = (w.members (negated y)).1 (t, λ back i.
-              let nonzero : ¬ IsZero y = leads_nonzero y leads in
-              not_both (leads_negative y) leads (sym (one_leads_negative y nonzero) ∙ i)) in
-          let back : negated (negated y) ≡ y = negated_twice y in
-          out (subst (λ (z : List ℤ). Contains us (full_vector U (pos 0) z)) back
-          (negative_there U (pos 0) rows (negated y) us h row (subst (IsUserSolution U (pos 0)) (sym back) m.solution) (subst (λ (z : List ℤ). ¬ IsZero (full_vector U (pos 0) z)) (sym back) m.nonzero))) in
+      let leads : leads_negative y ≡ true = is_true (leads_negative y) (λ e. not_row ((w.members y).1 (written (pos 0) y m, λ _ i. let f : leads_negative y ≡ true = i in cc))) in
+      let minimal : IsMinimalForUser U (pos 0) (negated y) = subst (λ (k : ℤ). IsMinimalForUser U k (negated y)) (at_zero t.times (negated y) t.minimal) t.minimal in
+      let row : Contains rows (negated y) = (w.members (negated y)).1 (
+        t,
+        λ back i.
+            let nonzero : ¬ IsZero y = leads_nonzero y leads in
+            not_both (leads_negative y) leads (sym (one_leads_negative y nonzero) ∙ i),
+      ) in
+      let back : negated (negated y) ≡ y = negated_twice y in
+      out (subst (λ (z : List ℤ). Contains us (full_vector U (pos 0) z)) back
+      (negative_there U (pos 0) rows (negated y) us h row (subst (IsUserSolution U (pos 0)) (sym back) m.solution) (subst (λ (z : List ℤ). ¬ IsZero (full_vector U (pos 0) z)) (sym back) m.nonzero))) in
       not_row ((w.members y).1 (written (pos 0) y m, λ t i. not_negative t))
 
   pub graver_there : (rows us : List (List ℤ)) → IsWantedGraverForUser U rows → AreOfRows Graver U (pos 0) rows us → (d : ℤ) (y : List ℤ) → IsMinimalForUser U d y → Contains us (full_vector U d y)

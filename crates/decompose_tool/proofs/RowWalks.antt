@@ -41,9 +41,11 @@ graver_at_zero s x n v old mid new r e h f one two =
           let w = full_vector U (pos 0) (negated x) in
           let next : GoesOn n (unless_zero w) mid new = subst (λ (z : List ℤ). GoesOn n (unless_zero z) mid new) (sym (full_negated U x (no_x0 s e))) k.1 in
           (unless_zero u ++ unless_zero w, inl (both.0 k.0, refl), goes_append n (unless_zero u) (unless_zero w) old mid new first next)
-      | inr k ↦
-          (unless_zero u, inr (λ t. k.0 (both.1 t), refl),
-          subst (λ (us : List (List ℤ)). GoesOn n us old new) (append-nil (unless_zero u)) (goes_append n (unless_zero u) [] old mid new first k.1))
+      | inr k ↦ (
+        unless_zero u,
+        inr (λ t. k.0 (both.1 t), refl),
+        subst (λ (us : List (List ℤ)). GoesOn n us old new) (append-nil (unless_zero u)) (goes_append n (unless_zero u) [] old mid new first k.1),
+      )
     ]
 
 pub graver_row : (s : Shaped) (c : ℤ) (x : List ℤ) (n k : ℕ) (v w : List ℤ) (old mid new : Walk) → IsRead s → s.system.tool ≡ Graver → IsUserSolution (user_of s) c x → k ≡ n →

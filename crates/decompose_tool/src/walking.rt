@@ -264,7 +264,12 @@ fn start(alloc: Global, shaped: &Shaped, point: &Grid) -> Result<Walk, AllocErro
 {
     let mut rest = Vec::new(alloc);
     // The row was checked, so its full vector is in range.
-    fill(shaped, times(shaped.system.tool()), row(point, 0), &mut rest)?;
+    fill(
+        shaped,
+        times(shaped.system.tool()),
+        row(point, 0),
+        &mut rest,
+    )?;
     Ok(Walk {
         rest,
         terms: 0,
@@ -282,7 +287,13 @@ pub(crate) fn walk_over(alloc: Global, shaped: &Shaped, sets: &Sets) -> Result<W
     ensures walked { IfOk result (Walked shaped.now sets.now) }
 {
     let mut walk = start(alloc, shaped, &sets.point)?;
-    take_rows(alloc, shaped, times(shaped.system.tool()), &sets.first, &mut walk)?;
+    take_rows(
+        alloc,
+        shaped,
+        times(shaped.system.tool()),
+        &sets.first,
+        &mut walk,
+    )?;
     take_second(alloc, shaped, &sets.second, &mut walk)?;
     Ok(walk)
 }
