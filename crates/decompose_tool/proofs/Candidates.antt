@@ -1,22 +1,22 @@
 -- The candidates are full vectors of solutions, and those of all minimal ones are among them where the set files hold the wanted lists.
-use Rattle.std.proofs.Common.{◌≡◌, ℕ, zero, suc, List, [], ◌∷◌, ◌++◌, length, get_or, drop, refl, ap, ap₂, sym, ◌∙◌, subst, inl, inr, ◌⊎◌, arith, Bool, true, false, not, Option, None, Some, append_assoc}
-use Rattle.std.specs.Prelude.{ℤ, pos, negsuc, IsTrue, ◌≤ℤ◌}
+use Rattle.std.proofs.Common.{◌≡◌, zero, suc, List, [], ◌∷◌, ◌++◌, length, get_or, drop, refl, ap, ap₂, sym, ◌∙◌, subst, inl, inr, ◌⊎◌, arith, Bool, true, false, not, Option, None, Some, append_assoc}
+use Rattle.std.specs.Prelude.{ℤ, pos, negsuc, ◌≤ℤ◌}
 use Rattle.std.specs.List.{AllByRecursion, Contains}
 use Rattle.std.proofs.lemmas.Int.{ints}
 use Rattle.int_vector.specs.Vectors.{IsZero, negated, leads_negative}
 use Rattle.mat_files.specs.Cells.{Matrix}
 use Rattle.lift_core.specs.declared.Tool.{Tool}
 use Rattle.lift_core.specs.declared.Tool.TheVariants.{Graver, Hilbert, Zsolve}
-use Rattle.lift_core.specs.Columns.{Kind, Homogeneous, Inhomogeneous, Every}
+use Rattle.lift_core.specs.Columns.{Homogeneous, Inhomogeneous, Every}
 use Rattle.lift_core.proofs.Lists.{contains_cases, contains_head, contains_tail, contains_nothing}
 use Rattle.lift_core.proofs.Systems.{test_same}
 use Rattle.lift_core.proofs.Written.{one_leads_negative}
 use Rattle.system_shape.specs.Problem.{UserSystem, IsX0, full_vector, IsUserSolution, IsMinimalForUser, IsWrittenForUser, IsWantedForUser, IsWantedGraverForUser}
 use Rattle.system_shape.specs.Shape.{has_x0}
 use Rattle.system_files.specs.Kernel.{rows_in}
-use Rattle.system_files.proofs.Negatives.{negated_twice, negated_zero}
+use Rattle.system_files.proofs.Negatives.{negated_twice}
 use Rattle.decompose_tool.specs.declared.reading.Sets.{Sets}
-use Rattle.decompose_tool.specs.Rows.{Part, IsSound, AreSound, is_zero, unless_zero, AreOfRow, AreOfRows, AreCandidates, set_parts, second_part, times_of, HoldWanted, HoldsHomogeneous}
+use Rattle.decompose_tool.specs.Rows.{Part, IsSound, AreSound, is_zero, unless_zero, AreOfRow, AreOfRows, AreCandidates, set_parts, second_part, HoldWanted, HoldsHomogeneous}
 
 -- ---- a vector unless it is zero
 pub zero_of_test : (v : List ℤ) → is_zero v ≡ true → IsZero v

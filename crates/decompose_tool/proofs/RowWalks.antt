@@ -1,5 +1,5 @@
 -- The walk over the candidates of a row, of the rows one after another, and of the files.
-use Rattle.std.proofs.Common.{◌≡◌, ℕ, zero, suc, ◌+◌, ◌<◌, ◌≤◌, List, [], ◌∷◌, ◌++◌, length, get_or, take, refl, ap, sym, ◌∙◌, subst, subst₂, inl, inr, arith, append_assoc, append-nil, true, false, ◌⊎◌}
+use Rattle.std.proofs.Common.{◌≡◌, ℕ, zero, suc, ◌+◌, ◌<◌, List, [], ◌∷◌, ◌++◌, length, get_or, take, refl, ap, sym, ◌∙◌, subst, subst₂, inl, inr, arith, append_assoc, append-nil, ◌⊎◌}
 use Rattle.std.specs.Prelude.{ℤ, pos, ◌↔◌}
 use Rattle.int_vector.specs.Vectors.{negated}
 use Rattle.lift_core.specs.declared.Tool.{Tool}
@@ -10,11 +10,11 @@ use Rattle.system_files.specs.Kernel.{rows_in}
 use Rattle.system_files.specs.declared.systems.Shaped.{Shaped}
 use Rattle.decompose_tool.specs.declared.reading.Sets.{Sets}
 use Rattle.decompose_tool.specs.declared.walking.Walk.{Walk}
-use Rattle.decompose_tool.specs.Rows.{times_of, point_of, set_parts, second_part, unless_zero, AreOfRow, AreOfRows, AreCandidates}
+use Rattle.decompose_tool.specs.Rows.{times_of, point_of, second_part, unless_zero, AreOfRow, AreOfRows}
 use Rattle.decompose_tool.specs.Walks.{IsWalk}
 use Rattle.decompose_tool.specs.Inside.Steps.{user_of, IsRead, Obeys, IsStart, Walked, GoesOn, GoesOnWhere, GoesOverRow, GoesOverRows, GoesOverParts, cells_of}
 use Rattle.decompose_tool.proofs.FullVectors.{no_x0, zero_times}
-use Rattle.decompose_tool.proofs.Going.{goes_nowhere, goes_append}
+use Rattle.decompose_tool.proofs.Going.{goes_append}
 use Rattle.decompose_tool.proofs.Opposite.{full_negated, opposite}
 
 -- ---- one row

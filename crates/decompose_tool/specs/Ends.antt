@@ -1,6 +1,5 @@
 -- How a run ends, what it leaves, and what it says.
-use Rattle.std.specs.Prelude.{◌≡◌, ◌⊎◌, ◌≤◌, ◌+◌, ◌<ℤ◌, ℕ, ℤ, pos, nat_abs, List, [], ◌∷◌, ◌++◌, map, length, take, Option, None, Some, Result, Ok, Err, codes, decimal}
-use Rattle.std.specs.Fmt.{signed_decimal}
+use Rattle.std.specs.Prelude.{◌≡◌, ◌⊎◌, ◌≤◌, ◌+◌, ℕ, ℤ, pos, List, [], ◌∷◌, ◌++◌, map, length, take, Option, Result, Ok, Err, codes, decimal}
 use Rattle.std.specs.Option.{option_map}
 use Rattle.std.specs.List.{AllByRecursion}
 use Rattle.std.specs.Io.KnownBytes.{append_known}
@@ -13,10 +12,8 @@ use Rattle.int_vector.specs.Operations.{total}
 use Rattle.int_vector.specs.Vectors.{◌⊑◌, IsZero}
 use Rattle.mat_files.specs.Cells.{Matrix}
 use Rattle.mat_files.specs.Printed.{text_of}
-use Rattle.lift_core.specs.declared.Tool.{Tool}
 use Rattle.system_shape.specs.Problem.{UserSystem, full_vector}
 use Rattle.system_shape.specs.Shape.{user_system}
-use Rattle.system_shape.specs.declared.files.Input.{Input}
 use Rattle.solution_files.specs.Outputs.{written, MayWrite, text_of_rows}
 use Rattle.tool_frame.specs.Outputs.{OutputFile, Traces, IsUntouched, IsWhole, IsPartly}
 use Rattle.decompose_tool.specs.declared.ends.DecEnd.{DecEnd}
@@ -26,7 +23,6 @@ use Rattle.decompose_tool.specs.declared.ends.Ending.TheVariants.{Done, Left}
 use Rattle.decompose_tool.specs.declared.ends.RowFault.TheVariants.{Range, NotSolution}
 use Rattle.decompose_tool.specs.declared.ends.Stop.{Stop}
 use Rattle.decompose_tool.specs.declared.ends.Stop.TheVariants.{Usage, Input as BadInput, File, Shape, Row, Outside, Memory}
-use Rattle.decompose_tool.specs.declared.reading.Sets.{Sets}
 use Rattle.decompose_tool.specs.Rows.{times_of, set_parts, all_parts, point_of, AreSound, IsFirstFault, AreCandidates, HoldWanted}
 use Rattle.decompose_tool.specs.Sets.{Plan}
 use Rattle.decompose_tool.specs.Walks.{Term, IsWalk, multiples, vectors, AreDifferent}

@@ -1,5 +1,5 @@
 -- The line on standard error.
-use Rattle.std.specs.Prelude.{◌≡◌, ℕ, ℤ, pos, negsuc, nat_abs, List, [], ◌∷◌, ◌++◌, map, Option, None, Some, Result, Ok, Err, codes}
+use Rattle.std.specs.Prelude.{◌≡◌, ℕ, ℤ, pos, negsuc, nat_abs, List, [], ◌∷◌, map, Option, None, Some, Result, Ok, Err, codes}
 use Rattle.std.specs.Fmt.{signed_decimal}
 use Rattle.outside.specs.Pieces.{MayPut}
 use Rattle.system_shape.specs.declared.faults.ShapeFault.{ShapeFault}

@@ -9,7 +9,6 @@ use Rattle.system_shape.specs.Problem.{equal_to, UserRow, UserSystem, Stands, fu
 use Rattle.system_shape.specs.Shape.{relation_of, user_system}
 use Rattle.system_files.specs.Inputs.{IsShaped}
 use Rattle.system_files.specs.declared.systems.Shaped.{Shaped}
-use Rattle.decompose_tool.specs.declared.ends.DecFile.{DecFile}
 use Rattle.decompose_tool.specs.declared.ends.RowFault.{RowFault}
 use Rattle.decompose_tool.specs.declared.ends.Stop.{Stop}
 use Rattle.decompose_tool.specs.declared.ends.Stop.TheVariants.{Usage, Input as BadInput, File, Shape, Row, Outside, Memory}
