@@ -1,22 +1,22 @@
 -- The candidates are full vectors of solutions, and those of all minimal ones are among them where the set files hold the wanted lists.
-use Rattle.std.proofs.Common.{◌≡◌, ℕ, zero, suc, List, [], ◌∷◌, ◌++◌, length, get_or, drop, refl, ap, ap₂, sym, ◌∙◌, subst, inl, inr, ◌⊎◌, arith, Bool, true, false, not, Option, None, Some, append_assoc}
-use Rattle.std.specs.Prelude.{ℤ, pos, negsuc, IsTrue, ◌≤ℤ◌}
+use Rattle.std.proofs.Common.{◌≡◌, zero, suc, List, [], ◌∷◌, ◌++◌, length, get_or, drop, refl, ap, ap₂, sym, ◌∙◌, subst, inl, inr, ◌⊎◌, arith, Bool, true, false, not, Option, None, Some, append_assoc}
+use Rattle.std.specs.Prelude.{ℤ, pos, negsuc, ◌≤ℤ◌}
 use Rattle.std.specs.List.{AllByRecursion, Contains}
 use Rattle.std.proofs.lemmas.Int.{ints}
 use Rattle.int_vector.specs.Vectors.{IsZero, negated, leads_negative}
 use Rattle.mat_files.specs.Cells.{Matrix}
 use Rattle.lift_core.specs.declared.Tool.{Tool}
 use Rattle.lift_core.specs.declared.Tool.TheVariants.{Graver, Hilbert, Zsolve}
-use Rattle.lift_core.specs.Columns.{Kind, Homogeneous, Inhomogeneous, Every}
+use Rattle.lift_core.specs.Columns.{Homogeneous, Inhomogeneous, Every}
 use Rattle.lift_core.proofs.Lists.{contains_cases, contains_head, contains_tail, contains_nothing}
 use Rattle.lift_core.proofs.Systems.{test_same}
 use Rattle.lift_core.proofs.Written.{one_leads_negative}
 use Rattle.system_shape.specs.Problem.{UserSystem, IsX0, full_vector, IsUserSolution, IsMinimalForUser, IsWrittenForUser, IsWantedForUser, IsWantedGraverForUser}
 use Rattle.system_shape.specs.Shape.{has_x0}
 use Rattle.system_files.specs.Kernel.{rows_in}
-use Rattle.system_files.proofs.Negatives.{negated_twice, negated_zero}
+use Rattle.system_files.proofs.Negatives.{negated_twice}
 use Rattle.decompose_tool.specs.declared.reading.Sets.{Sets}
-use Rattle.decompose_tool.specs.Rows.{Part, IsSound, AreSound, is_zero, unless_zero, AreOfRow, AreOfRows, AreCandidates, set_parts, second_part, times_of, HoldWanted, HoldsHomogeneous}
+use Rattle.decompose_tool.specs.Rows.{Part, IsSound, AreSound, is_zero, unless_zero, AreOfRow, AreOfRows, AreCandidates, set_parts, second_part, HoldWanted, HoldsHomogeneous}
 
 -- ---- a vector unless it is zero
 pub zero_of_test : (v : List ℤ) → is_zero v ≡ true → IsZero v
@@ -200,14 +200,17 @@ module _ (U : UserSystem) (none : U.x0 ≡ false) where
   graver_there_at rows us w h y m out =
       let not_row : Contains rows y → ⊥ = λ k. out (rows_there Graver U (pos 0) rows y us h k m.nonzero) in
       let not_negative : IsWrittenForUser U Every (negated y) → ⊥ = λ t.
-          let leads : leads_negative y ≡ true = is_true (leads_negative y) (λ e. not_row ((w.members y).1 (written (pos 0) y m, λ _ i. let f : leads_negative y ≡ true = i in cc))) in
-          let minimal : IsMinimalForUser U (pos 0) (negated y) = subst (λ (k : ℤ). IsMinimalForUser U k (negated y)) (at_zero t.times (negated y) t.minimal) t.minimal in
-          let row : Contains rows (negated y) = (w.members (negated y)).1 (t, λ back i.
-              let nonzero : ¬ IsZero y = leads_nonzero y leads in
-              not_both (leads_negative y) leads (sym (one_leads_negative y nonzero) ∙ i)) in
-          let back : negated (negated y) ≡ y = negated_twice y in
-          out (subst (λ (z : List ℤ). Contains us (full_vector U (pos 0) z)) back
-          (negative_there U (pos 0) rows (negated y) us h row (subst (IsUserSolution U (pos 0)) (sym back) m.solution) (subst (λ (z : List ℤ). ¬ IsZero (full_vector U (pos 0) z)) (sym back) m.nonzero))) in
+      let leads : leads_negative y ≡ true = is_true (leads_negative y) (λ e. not_row ((w.members y).1 (written (pos 0) y m, λ _ i. let f : leads_negative y ≡ true = i in cc))) in
+      let minimal : IsMinimalForUser U (pos 0) (negated y) = subst (λ (k : ℤ). IsMinimalForUser U k (negated y)) (at_zero t.times (negated y) t.minimal) t.minimal in
+      let row : Contains rows (negated y) = (w.members (negated y)).1 (
+        t,
+        λ back i.
+            let nonzero : ¬ IsZero y = leads_nonzero y leads in
+            not_both (leads_negative y) leads (sym (one_leads_negative y nonzero) ∙ i),
+      ) in
+      let back : negated (negated y) ≡ y = negated_twice y in
+      out (subst (λ (z : List ℤ). Contains us (full_vector U (pos 0) z)) back
+      (negative_there U (pos 0) rows (negated y) us h row (subst (IsUserSolution U (pos 0)) (sym back) m.solution) (subst (λ (z : List ℤ). ¬ IsZero (full_vector U (pos 0) z)) (sym back) m.nonzero))) in
       not_row ((w.members y).1 (written (pos 0) y m, λ t i. not_negative t))
 
   pub graver_there : (rows us : List (List ℤ)) → IsWantedGraverForUser U rows → AreOfRows Graver U (pos 0) rows us → (d : ℤ) (y : List ℤ) → IsMinimalForUser U d y → Contains us (full_vector U d y)

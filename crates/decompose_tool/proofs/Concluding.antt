@@ -1,8 +1,7 @@
 -- From the walk, and from what was written and told, to the end of the run.
-use Rattle.std.proofs.Common.{◌≡◌, ℕ, ◌+◌, List, [], ◌∷◌, ◌++◌, length, refl, ap, sym, ◌∙◌, subst, inl, inr, Option, None, Some, Result, Ok, Err, codes, false, true, ap₂, ◌*◌, arith, length-append}
+use Rattle.std.proofs.Common.{◌≡◌, ℕ, ◌+◌, List, [], ◌∷◌, ◌++◌, length, ap, sym, ◌∙◌, subst, inl, inr, Option, None, Some, Result, Ok, Err, codes, false, true, ap₂, ◌*◌, arith, length-append}
 use Rattle.std.specs.Prelude.{ℤ, IfSome}
 use Rattle.std.specs.List.{AllByRecursion, flat_map}
-use Rattle.std.specs.Io.KnownBytes.{append_known}
 use Rattle.std.proofs.lemmas.List.{length-map}
 use Rattle.outside.specs.Files.{Files}
 use Rattle.outside.specs.Pieces.{MayPut}
@@ -23,10 +22,9 @@ use Rattle.decompose_tool.specs.declared.ends.Stop.{Stop}
 use Rattle.decompose_tool.specs.declared.ends.Stop.TheVariants.{Usage, Input as BadInput, File, Shape, Row, Outside, Memory}
 use Rattle.decompose_tool.specs.declared.reading.Sets.{Sets}
 use Rattle.decompose_tool.specs.declared.walking.Walk.{Walk}
-use Rattle.decompose_tool.specs.Ends.{row_of_term, rows_of_terms, summary_of, full_point, system_of, AreAllSound, IsWalkOf, IsSumOf, IsDecomposed, IsDone, IsCutShort, IsLeft, Cut, Published, EndsWith}
+use Rattle.decompose_tool.specs.Ends.{row_of_term, rows_of_terms, summary_of, full_point, AreAllSound, IsWalkOf, IsDecomposed, IsCutShort, IsLeft, Cut, Published, EndsWith}
 use Rattle.decompose_tool.specs.Rows.{is_zero}
-use Rattle.decompose_tool.specs.Walks.{Term}
-use Rattle.decompose_tool.specs.Inside.Steps.{Walked, cells_of, plan_of}
+use Rattle.decompose_tool.specs.Inside.Steps.{Walked, plan_of}
 use Rattle.decompose_tool.proofs.Candidates.{zero_of_test, test_of_zero, each_append}
 use Rattle.decompose_tool.proofs.Walks.{terms_are_below, terms_differ, nothing_fits, whole_sum}
 

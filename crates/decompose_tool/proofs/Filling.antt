@@ -1,15 +1,15 @@
 -- The full vector, difference by difference, and its norm.
-use Rattle.std.proofs.Common.{◌≡◌, ℕ, zero, suc, ◌+◌, ◌<◌, ◌≤◌, List, [], ◌∷◌, ◌++◌, length, get_or, take, drop, refl, ap, sym, ◌∙◌, subst, arith, Option, None, Some, append_assoc, Bool, true, false}
+use Rattle.std.proofs.Common.{◌≡◌, ℕ, zero, suc, ◌+◌, ◌<◌, ◌≤◌, List, [], ◌∷◌, ◌++◌, length, get_or, take, drop, refl, ap, sym, ◌∙◌, subst, arith, Option, None, Some, append_assoc, true, false}
 use Rattle.std.specs.Prelude.{IfSome, ℤ, pos, nat_abs, ◌≤ℤ◌, ◌*ℤ◌, ◌-ℤ◌}
 use Rattle.std.specs.List.{AllByRecursion}
 use Rattle.std.proofs.lemmas.Int.{ints}
 use Rattle.std.proofs.lemmas.List.{drop_more}
 use Rattle.int_vector.specs.Range.{InRange}
 use Rattle.int_vector.specs.Vectors.{dot, norm, largest}
-use Rattle.system_shape.specs.Problem.{Relation, at_most, equal_to, at_least, UserRow, UserSystem, Stands, difference_before, differences, x0_entry, full_vector}
+use Rattle.system_shape.specs.Problem.{Relation, at_most, equal_to, at_least, UserRow, Stands, difference_before, differences, x0_entry}
 use Rattle.system_shape.specs.Shape.{relation_of}
 use Rattle.decompose_tool.specs.declared.rows.Standing.{Standing}
-use Rattle.decompose_tool.specs.Inside.Steps.{IsStanding, no_row, in_front, RowsStand, Fills, FillsRows}
+use Rattle.decompose_tool.specs.Inside.Steps.{IsStanding, no_row, in_front, RowsStand}
 
 pub norm-append : (u v : List ℤ) → norm (u ++ v) ≡ norm u + norm v
 norm-append [] v = omega arith

@@ -1,12 +1,11 @@
 -- The full vectors of rows that are taken: what the buffer has, how long they are, and the multiple of the right sides.
-use Rattle.std.proofs.Common.{◌≡◌, ℕ, ◌≤◌, ◌<◌, List, ◌++◌, length, ap, sym, ◌∙◌, subst, arith, Bool, true, false}
+use Rattle.std.proofs.Common.{◌≡◌, ◌≤◌, ◌<◌, List, ◌++◌, length, ap, sym, ◌∙◌, subst, arith, Bool, true, false}
 use Rattle.std.specs.Prelude.{ℤ, pos}
 use Rattle.int_vector.specs.Vectors.{norm, largest}
 use Rattle.lift_core.specs.ToolSystems.{width}
-use Rattle.lift_core.specs.declared.Tool.{Tool}
-use Rattle.lift_core.specs.declared.Tool.TheVariants.{Graver, Hilbert, Zsolve}
+use Rattle.lift_core.specs.declared.Tool.TheVariants.{Graver}
 use Rattle.lift_core.proofs.Systems.{solution_length}
-use Rattle.system_shape.specs.Problem.{UserSystem, IsX0, full_vector, IsUserSolution}
+use Rattle.system_shape.specs.Problem.{IsX0, full_vector, IsUserSolution}
 use Rattle.system_shape.specs.Shape.{has_x0}
 use Rattle.system_shape.specs.Slacks.{linear_system}
 use Rattle.system_shape.proofs.Solutions.{solves_full}

@@ -1,18 +1,18 @@
 -- The walk goes on: past a candidate, with it, and over one list of candidates after another.
-use Rattle.std.proofs.Common.{◌≡◌, ℕ, zero, suc, ◌+◌, ◌≤◌, List, [], ◌∷◌, ◌++◌, length, take, map, refl, ap, ap₂, sym, ◌∙◌, subst, subst₂, inl, inr, arith, true, false, append_assoc, append-nil, length-append, length-take}
+use Rattle.std.proofs.Common.{◌≡◌, ℕ, zero, suc, ◌+◌, ◌≤◌, List, [], ◌∷◌, ◌++◌, length, take, refl, ap, sym, ◌∙◌, subst, inl, inr, arith, true, false, append_assoc, append-nil, length-append, length-take}
 use Rattle.std.specs.Prelude.{ℤ, pos, nat_abs}
 use Rattle.std.specs.List.{AllByRecursion, flat_map}
 use Rattle.std.proofs.lemmas.Grind.{flat_map-append}
 use Rattle.std.proofs.lemmas.List.{map-append}
 use Rattle.int_vector.specs.Range.{InRange}
 use Rattle.int_vector.specs.Operations.{subtract}
-use Rattle.int_vector.specs.Vectors.{IsWithin, ◌⊑◌, largest}
+use Rattle.int_vector.specs.Vectors.{◌⊑◌, largest}
 use Rattle.int_vector.proofs.Vectors.{length-below, difference_below}
 use Rattle.solution_files.specs.Steps.{AreRows}
 use Rattle.decompose_tool.specs.declared.walking.Walk.{Walk}
 use Rattle.decompose_tool.specs.Ends.{row_of_term, rows_of_terms}
 use Rattle.decompose_tool.specs.Rows.{is_zero, unless_zero}
-use Rattle.decompose_tool.specs.Walks.{times, IsMost, Term, IsWalk}
+use Rattle.decompose_tool.specs.Walks.{times, IsMost, Term}
 use Rattle.decompose_tool.specs.Inside.Steps.{cells_of, IsOpen, GoesOn}
 use Rattle.decompose_tool.proofs.Walks.{walk_append}
 use Rattle.decompose_tool.proofs.Candidates.{kept_vector, dropped_vector, each_append}

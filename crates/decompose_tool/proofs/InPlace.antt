@@ -1,9 +1,9 @@
 -- A list whose entries are replaced one after another, by those of another list.
-use Rattle.std.proofs.Common.{◌≡◌, ℕ, zero, suc, ◌+◌, ◌*◌, ◌<◌, ◌≤◌, List, [], ◌∷◌, ◌++◌, length, get_or, take, drop, set, refl, ap, ap₂, sym, ◌∙◌, arith}
+use Rattle.std.proofs.Common.{◌≡◌, ℕ, zero, suc, ◌+◌, ◌<◌, ◌≤◌, List, [], ◌∷◌, ◌++◌, length, get_or, take, drop, set, refl, ap, ap₂, sym, ◌∙◌, arith}
 use Rattle.std.specs.Prelude.{ℤ, pos, nat_abs, neg_ℤ, ◌*ℤ◌, ◌-ℤ◌}
 use Rattle.std.specs.List.{AllByRecursion}
 use Rattle.std.proofs.lemmas.Int.{ints}
-use Rattle.std.proofs.lemmas.List.{drop_more, get_or-drop, take_more, take_more_set, take_all}
+use Rattle.std.proofs.lemmas.List.{get_or-drop, take_more, take_more_set, take_all}
 use Rattle.int_vector.specs.Range.{InRange}
 use Rattle.int_vector.specs.Operations.{subtract}
 use Rattle.int_vector.specs.Vectors.{IsWithin, ◌⊑◌, negated}

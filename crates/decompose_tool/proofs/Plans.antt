@@ -1,20 +1,17 @@
 -- From what was read to the plan of the run, and to its end.
-use Rattle.std.proofs.Common.{◌≡◌, ℕ, List, [], ◌∷◌, ◌++◌, length, get_or, refl, ap, sym, ◌∙◌, subst, inl, inr, arith, Option, None, Some, Result, Ok, Err, Bool, true, false}
-use Rattle.std.specs.Prelude.{ℤ, ◌==◌, ◌&&◌, IfSome}
-use Rattle.std.specs.List.{AllByRecursion}
+use Rattle.std.proofs.Common.{◌≡◌, ℕ, List, [], refl, ap, sym, ◌∙◌, subst, inl, inr, arith, Option, None, Some, Result, Ok, Err, true, false}
+use Rattle.std.specs.Prelude.{ℤ, ◌==◌, IfSome}
 use Rattle.std.proofs.lemmas.Bool.{eqb-true}
 use Rattle.outside.specs.Files.{Files}
 use Rattle.int_vector.specs.Vectors.{IsZero}
 use Rattle.mat_files.specs.Cells.{Matrix}
 use Rattle.lift_core.specs.declared.Tool.{Tool}
 use Rattle.lift_core.proofs.Cells.{length-cut_rows}
-use Rattle.system_shape.specs.Problem.{IsUserSolution, full_vector}
 use Rattle.system_files.specs.Files.{◌>>=◌}
 use Rattle.system_files.specs.Inputs.{accepted_in}
 use Rattle.system_files.specs.Kernel.{rows_in}
 use Rattle.system_files.specs.declared.systems.Shaped.{Shaped}
 use Rattle.tool_frame.specs.Outputs.{Traces}
-use Rattle.decompose_tool.specs.declared.ends.DecEnd.{DecEnd}
 use Rattle.decompose_tool.specs.declared.ends.DecEnd.TheVariants as end
 use Rattle.decompose_tool.specs.declared.ends.DecFile.{DecFile}
 use Rattle.decompose_tool.specs.declared.ends.DecFile.TheVariants.{Zhom, Sol}
@@ -25,9 +22,9 @@ use Rattle.decompose_tool.specs.declared.ends.Stop.{Stop}
 use Rattle.decompose_tool.specs.declared.ends.Stop.TheVariants.{Usage, Input as BadInput, File, Shape, Row, Outside, Memory}
 use Rattle.decompose_tool.specs.declared.reading.Sets.{Sets}
 use Rattle.decompose_tool.specs.declared.walking.Walk.{Walk}
-use Rattle.decompose_tool.specs.Requests.{Asked, asked_in}
+use Rattle.decompose_tool.specs.Requests.{asked_in}
 use Rattle.decompose_tool.specs.Sets.{Plan, first_file, fitting, second_fitting, point_fitting, all_fitting, sets_in, of_input, planned}
-use Rattle.decompose_tool.specs.Rows.{is_zero, times_of, set_parts, all_parts, point_of, IsSound, AreSound, HoldWanted}
+use Rattle.decompose_tool.specs.Rows.{is_zero, times_of, set_parts, point_of, IsSound, AreSound, HoldWanted}
 use Rattle.decompose_tool.specs.Ends.{end_of, EndsWith, Ends, NothingLeft, system_of, AreAllSound}
 use Rattle.decompose_tool.specs.Inside.Steps.{user_of, IsRead, AreInShape, Walked, plan_of}
 use Rattle.decompose_tool.proofs.Candidates.{test_of_zero, each_first, each_second, of_parts, all_there}

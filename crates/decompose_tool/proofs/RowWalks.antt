@@ -1,5 +1,5 @@
 -- The walk over the candidates of a row, of the rows one after another, and of the files.
-use Rattle.std.proofs.Common.{◌≡◌, ℕ, zero, suc, ◌+◌, ◌<◌, ◌≤◌, List, [], ◌∷◌, ◌++◌, length, get_or, take, refl, ap, sym, ◌∙◌, subst, subst₂, inl, inr, arith, append_assoc, append-nil, true, false, ◌⊎◌}
+use Rattle.std.proofs.Common.{◌≡◌, ℕ, zero, suc, ◌+◌, ◌<◌, List, [], ◌∷◌, ◌++◌, length, get_or, take, refl, ap, sym, ◌∙◌, subst, subst₂, inl, inr, arith, append_assoc, append-nil, ◌⊎◌}
 use Rattle.std.specs.Prelude.{ℤ, pos, ◌↔◌}
 use Rattle.int_vector.specs.Vectors.{negated}
 use Rattle.lift_core.specs.declared.Tool.{Tool}
@@ -10,11 +10,11 @@ use Rattle.system_files.specs.Kernel.{rows_in}
 use Rattle.system_files.specs.declared.systems.Shaped.{Shaped}
 use Rattle.decompose_tool.specs.declared.reading.Sets.{Sets}
 use Rattle.decompose_tool.specs.declared.walking.Walk.{Walk}
-use Rattle.decompose_tool.specs.Rows.{times_of, point_of, set_parts, second_part, unless_zero, AreOfRow, AreOfRows, AreCandidates}
+use Rattle.decompose_tool.specs.Rows.{times_of, point_of, second_part, unless_zero, AreOfRow, AreOfRows}
 use Rattle.decompose_tool.specs.Walks.{IsWalk}
 use Rattle.decompose_tool.specs.Inside.Steps.{user_of, IsRead, Obeys, IsStart, Walked, GoesOn, GoesOnWhere, GoesOverRow, GoesOverRows, GoesOverParts, cells_of}
 use Rattle.decompose_tool.proofs.FullVectors.{no_x0, zero_times}
-use Rattle.decompose_tool.proofs.Going.{goes_nowhere, goes_append}
+use Rattle.decompose_tool.proofs.Going.{goes_append}
 use Rattle.decompose_tool.proofs.Opposite.{full_negated, opposite}
 
 -- ---- one row
@@ -41,9 +41,11 @@ graver_at_zero s x n v old mid new r e h f one two =
           let w = full_vector U (pos 0) (negated x) in
           let next : GoesOn n (unless_zero w) mid new = subst (λ (z : List ℤ). GoesOn n (unless_zero z) mid new) (sym (full_negated U x (no_x0 s e))) k.1 in
           (unless_zero u ++ unless_zero w, inl (both.0 k.0, refl), goes_append n (unless_zero u) (unless_zero w) old mid new first next)
-      | inr k ↦
-          (unless_zero u, inr (λ t. k.0 (both.1 t), refl),
-          subst (λ (us : List (List ℤ)). GoesOn n us old new) (append-nil (unless_zero u)) (goes_append n (unless_zero u) [] old mid new first k.1))
+      | inr k ↦ (
+        unless_zero u,
+        inr (λ t. k.0 (both.1 t), refl),
+        subst (λ (us : List (List ℤ)). GoesOn n us old new) (append-nil (unless_zero u)) (goes_append n (unless_zero u) [] old mid new first k.1),
+      )
     ]
 
 pub graver_row : (s : Shaped) (c : ℤ) (x : List ℤ) (n k : ℕ) (v w : List ℤ) (old mid new : Walk) → IsRead s → s.system.tool ≡ Graver → IsUserSolution (user_of s) c x → k ≡ n →

@@ -57,7 +57,7 @@ pub record HaveNoFault (tool : Tool) (input : Input) : Type 0 where
 pub no_faults : (tool : Tool) (input : Input) → shape_fault tool input ≡ None → HaveNoFault tool input
 no_faults tool input e =
     let first = neither (sign_fault tool input.mat.cols input.sign)
-            (option_or (relation_fault input.mat.rows input.rel) (option_or (right_fault tool input.mat.rows input.rhs) (cap_fault input.mat.cols input.cap))) e in
+    (option_or (relation_fault input.mat.rows input.rel) (option_or (right_fault tool input.mat.rows input.rhs) (cap_fault input.mat.cols input.cap))) e in
     let second = neither (relation_fault input.mat.rows input.rel) (option_or (right_fault tool input.mat.rows input.rhs) (cap_fault input.mat.cols input.cap)) first.1 in
     let third = neither (right_fault tool input.mat.rows input.rhs) (cap_fault input.mat.cols input.cap) second.1 in
     record { relations = second.0; rights = third.0 }

@@ -1,6 +1,5 @@
 -- How a run ends, what it leaves, and what it says.
-use Rattle.std.specs.Prelude.{◌≡◌, ◌⊎◌, ◌≤◌, ◌+◌, ◌<ℤ◌, ℕ, ℤ, pos, nat_abs, List, [], ◌∷◌, ◌++◌, map, length, take, Option, None, Some, Result, Ok, Err, codes, decimal}
-use Rattle.std.specs.Fmt.{signed_decimal}
+use Rattle.std.specs.Prelude.{◌≡◌, ◌⊎◌, ◌≤◌, ◌+◌, ℕ, ℤ, pos, List, [], ◌∷◌, ◌++◌, map, length, take, Option, Result, Ok, Err, codes, decimal}
 use Rattle.std.specs.Option.{option_map}
 use Rattle.std.specs.List.{AllByRecursion}
 use Rattle.std.specs.Io.KnownBytes.{append_known}
@@ -13,10 +12,8 @@ use Rattle.int_vector.specs.Operations.{total}
 use Rattle.int_vector.specs.Vectors.{◌⊑◌, IsZero}
 use Rattle.mat_files.specs.Cells.{Matrix}
 use Rattle.mat_files.specs.Printed.{text_of}
-use Rattle.lift_core.specs.declared.Tool.{Tool}
 use Rattle.system_shape.specs.Problem.{UserSystem, full_vector}
 use Rattle.system_shape.specs.Shape.{user_system}
-use Rattle.system_shape.specs.declared.files.Input.{Input}
 use Rattle.solution_files.specs.Outputs.{written, MayWrite, text_of_rows}
 use Rattle.tool_frame.specs.Outputs.{OutputFile, Traces, IsUntouched, IsWhole, IsPartly}
 use Rattle.decompose_tool.specs.declared.ends.DecEnd.{DecEnd}
@@ -26,7 +23,6 @@ use Rattle.decompose_tool.specs.declared.ends.Ending.TheVariants.{Done, Left}
 use Rattle.decompose_tool.specs.declared.ends.RowFault.TheVariants.{Range, NotSolution}
 use Rattle.decompose_tool.specs.declared.ends.Stop.{Stop}
 use Rattle.decompose_tool.specs.declared.ends.Stop.TheVariants.{Usage, Input as BadInput, File, Shape, Row, Outside, Memory}
-use Rattle.decompose_tool.specs.declared.reading.Sets.{Sets}
 use Rattle.decompose_tool.specs.Rows.{times_of, set_parts, all_parts, point_of, AreSound, IsFirstFault, AreCandidates, HoldWanted}
 use Rattle.decompose_tool.specs.Sets.{Plan}
 use Rattle.decompose_tool.specs.Walks.{Term, IsWalk, multiples, vectors, AreDifferent}
@@ -74,7 +70,10 @@ rows_of_terms n terms = map (row_of_term n) terms
 
 -- the file of these terms
 abbrev pub output_of : ℕ → List Term → OutputFile
-output_of n terms = record { ending = codes ".dec"; text = text_of_rows (n + 1) (rows_of_terms n terms) }
+output_of n terms = record {
+  ending = codes ".dec";
+  text = text_of_rows (n + 1) (rows_of_terms n terms);
+}
 
 -- ---- what the run of a plan comes to
 abbrev pub system_of : Plan → UserSystem
@@ -89,7 +88,8 @@ abbrev pub AreAllSound : Plan → Type 0
 AreAllSound p = AllByRecursion (AreSound (system_of p)) (all_parts p.tool p.sets)
 
 -- the walk over the candidates of the set from the full vector of the point
-pub record IsWalkOf (p : Plan) (candidates : List (List ℤ)) (terms : List Term) (left : List ℤ) : Type 0 where
+pub record IsWalkOf (p : Plan) (candidates : List (List ℤ)) (terms : List Term) (left : List ℤ)
+    : Type 0 where
   pub sound : AreAllSound p
   pub candidates_are : AreCandidates p.tool (system_of p) (set_parts p.tool p.sets) candidates
   pub walk : IsWalk candidates (full_point p) terms left
@@ -119,7 +119,8 @@ pub record IsDone (p : Plan) (t : Traces) (count : ℕ) : Type 0 where
 pub record IsCutShort (p : Plan) (t : Traces) : Type 0 where
   pub terms : List Term
   pub decomposed : IsDecomposed p terms
-  pub part : IsPartly p.project (output_of p.input.mat.cols terms ∷ []) (summary_of (length terms)) t
+  pub part :
+      IsPartly p.project (output_of p.input.mat.cols terms ∷ []) (summary_of (length terms)) t
 
 -- this is left, which is not zero, and no candidate is below it
 pub record IsLeft (p : Plan) (t : Traces) (rest : List ℤ) : Type 0 where
@@ -134,7 +135,8 @@ pub record IsLeft (p : Plan) (t : Traces) (rest : List ℤ) : Type 0 where
 abbrev pub EndsWith : Plan → Traces → Result Ending Stop → Type 0
 EndsWith p t (Ok (Done count)) = IsDone p t count
 EndsWith p t (Ok (Left rest)) = IsLeft p t rest
-EndsWith p t (Err (Row f i fault)) = IsFirstFault (system_of p) (all_parts p.tool p.sets) f i fault × IsUntouched t
+EndsWith p t (Err (Row f i fault)) =
+    IsFirstFault (system_of p) (all_parts p.tool p.sets) f i fault × IsUntouched t
 EndsWith p t (Err Outside) = IsUntouched t ⊎ IsCutShort p t
 EndsWith p t (Err Memory) = IsUntouched t ⊎ IsCutShort p t
 EndsWith p t (Err Usage) = ⊥
@@ -142,7 +144,8 @@ EndsWith p t (Err (BadInput fault)) = ⊥
 EndsWith p t (Err (File f fault)) = ⊥
 EndsWith p t (Err (Shape f rows cols)) = ⊥
 
--- the end is the one that the words and the files decide, and this is what stands then; a device's fault and running out of memory come by themselves
+-- the end is the one that the words and the files decide, and this is what stands then; a device's
+-- fault and a lack of memory come by themselves
 abbrev pub Ends : Result Plan Stop → Traces → Result Ending Stop → Type 0
 Ends plan t (Ok ending) = (p : Plan) × (plan ≡ Ok p) × EndsWith p t (Ok ending)
 Ends plan t (Err (Row f i fault)) = (p : Plan) × (plan ≡ Ok p) × EndsWith p t (Err (Row f i fault))
@@ -155,7 +158,9 @@ Ends plan t (Err Memory) = IsUntouched t ⊎ ((p : Plan) × (plan ≡ Ok p) × I
 
 -- where the set files hold what the tool writes, nothing is left
 abbrev pub NothingLeft : Result Plan Stop → DecEnd → Type 0
-NothingLeft plan result = (p : Plan) → plan ≡ Ok p → HoldWanted p.tool (system_of p) p.sets → (rest : List ℤ) → result ≡ end.Left rest → ⊥
+NothingLeft plan result =
+    (p : Plan) → plan ≡ Ok p → HoldWanted p.tool (system_of p) p.sets
+    → (rest : List ℤ) → result ≡ end.Left rest → ⊥
 
 -- ---- the steps of the writing
 -- the summary was put, or a prefix of it
@@ -171,14 +176,18 @@ Told terms old new (Err (Shape f rows cols)) = ⊥
 Told terms old new (Err (Row f row fault)) = ⊥
 
 -- the writing of the matrix or the telling was cut
-abbrev pub Cut : List ℕ → Matrix → Option Files → Option Files → Option (List ℕ) → Option (List ℕ) → Type 0
+abbrev pub Cut : List ℕ → Matrix → Option Files → Option Files → Option (List ℕ) → Option (List ℕ)
+    → Type 0
 Cut project grid old new out out' =
     (MayWrite (project ++ codes ".dec") (text_of grid) old new × (out' ≡ out))
-    ⊎ ((new ≡ option_map (written (project ++ codes ".dec") (text_of grid)) old) × MayPut (summary_of grid.rows) out out')
+    ⊎ ((new ≡ option_map (written (project ++ codes ".dec") (text_of grid)) old)
+    × MayPut (summary_of grid.rows) out out')
 
-abbrev pub Published : List ℕ → Matrix → Option Files → Option Files → Option (List ℕ) → Option (List ℕ) → Result Ending Stop → Type 0
+abbrev pub Published : List ℕ → Matrix → Option Files → Option Files → Option (List ℕ)
+    → Option (List ℕ) → Result Ending Stop → Type 0
 Published project grid old new out out' (Ok (Done n)) =
-    (n ≡ grid.rows) × (new ≡ option_map (written (project ++ codes ".dec") (text_of grid)) old) × (out' ≡ append_known out (summary_of n))
+    (n ≡ grid.rows) × (new ≡ option_map (written (project ++ codes ".dec") (text_of grid)) old)
+    × (out' ≡ append_known out (summary_of n))
 Published project grid old new out out' (Ok (Left rest)) = ⊥
 Published project grid old new out out' (Err Outside) = Cut project grid old new out out'
 Published project grid old new out out' (Err Memory) = Cut project grid old new out out'
@@ -193,7 +202,8 @@ pub record HasCause {T : Type 0} (before now : ℕ) (result : Result T Stop) : T
   pub later : before ≤ now
   pub failed : result ≡ Err Outside → Rose before now
 
-pub record HasCauses (files_before files_now out_before out_now : ℕ) (result : Result Ending Stop) : Type 0 where
+pub record HasCauses (files_before files_now out_before out_now : ℕ) (result : Result Ending Stop)
+    : Type 0 where
   pub files_later : files_before ≤ files_now
   pub out_later : out_before ≤ out_now
   pub failed : result ≡ Err Outside → Rose files_before files_now ⊎ Rose out_before out_now

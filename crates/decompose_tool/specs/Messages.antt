@@ -1,5 +1,5 @@
 -- The line on standard error.
-use Rattle.std.specs.Prelude.{◌≡◌, ℕ, ℤ, pos, negsuc, nat_abs, List, [], ◌∷◌, ◌++◌, map, Option, None, Some, Result, Ok, Err, codes}
+use Rattle.std.specs.Prelude.{◌≡◌, ℕ, ℤ, pos, negsuc, nat_abs, List, [], ◌∷◌, map, Option, None, Some, Result, Ok, Err, codes}
 use Rattle.std.specs.Fmt.{signed_decimal}
 use Rattle.outside.specs.Pieces.{MayPut}
 use Rattle.system_shape.specs.declared.faults.ShapeFault.{ShapeFault}
@@ -44,13 +44,15 @@ input_source (input.Shape fault) = shape_source fault
 -- a sign that is none, with a dash where it is negative
 abbrev pub bad_sign_text : ℕ → ℤ → List (List ℕ)
 bad_sign_text at (pos value) = with_numbers (codes "column ") at (codes ": bad sign ") value []
-bad_sign_text at (negsuc value) = with_numbers (codes "column ") at (codes ": bad sign -") (nat_abs (negsuc value)) []
+bad_sign_text at (negsuc value) =
+    with_numbers (codes "column ") at (codes ": bad sign -") (nat_abs (negsuc value)) []
 
 abbrev pub shape_fault_text : ShapeFault → List (List ℕ)
 shape_fault_text shape.SignNeeded = plain (codes "needed")
 shape_fault_text (shape.SignShape rows cols) = shape_text rows cols
 shape_fault_text (shape.BadSign at value) = bad_sign_text at value
-shape_fault_text (shape.Free at) = with_number (codes "column ") at (codes ": free variables are not supported")
+shape_fault_text (shape.Free at) =
+    with_number (codes "column ") at (codes ": free variables are not supported")
 shape_fault_text (shape.RelShape rows cols) = shape_text rows cols
 shape_fault_text shape.RhsNotHere = plain (codes "only for zsolve")
 shape_fault_text (shape.RhsShape rows cols) = shape_text rows cols

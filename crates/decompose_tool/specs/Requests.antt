@@ -27,7 +27,8 @@ pub record Asked : Type 0 where
 abbrev pub asked_in : List (List ℕ) → Option Asked
 asked_in [] = None
 asked_in (w ∷ []) = None
-asked_in (w ∷ p ∷ []) = if is_name p then option_map (λ tool. record { tool = tool; project = p }) (tool_in w) else None
+asked_in (w ∷ p ∷ []) =
+    if is_name p then option_map (λ tool. record { tool = tool; project = p }) (tool_in w) else None
 asked_in (w ∷ p ∷ q ∷ ws) = None
 
 -- the project; nothing where the words are not of that form

@@ -47,9 +47,12 @@ of_input (Err fault) = Err (BadInput fault)
 
 -- the matrix in the project's file
 abbrev pub matrix_in : List ℕ → DecFile → Files → Result Matrix Stop
-matrix_in project f files = at f (grid_in (limits_of f).bytes (limits_of f).rows (limits_of f).cols (get files (project ++ ending f)))
+matrix_in project f files =
+    at f (grid_in (limits_of f).bytes (limits_of f).rows (limits_of f).cols
+    (get files (project ++ ending f)))
 
--- the file of the solutions that a tool writes; zsolve has a second one, of the homogeneous solutions
+-- the file of the solutions that a tool writes; zsolve has a second one, of the homogeneous
+-- solutions
 abbrev pub first_file : Tool → DecFile
 first_file Graver = Gra
 first_file Hilbert = Hil
@@ -114,7 +117,7 @@ planned words files = do
   sets ← sets_in asked.tool input.mat.cols asked.project files
   Ok (record { project = asked.project; tool = asked.tool; input = input; sets = sets })
 
--- the step's answer is the expected one; a device's fault and running out of memory come by themselves
+-- the step's answer is the expected one; a device's fault and a lack of memory come by themselves
 abbrev pub FailsAs : {A : Type 0} → Stop → Result A Stop → Type 0
 FailsAs Usage expected = expected ≡ Err Usage
 FailsAs (BadInput fault) expected = expected ≡ Err (BadInput fault)

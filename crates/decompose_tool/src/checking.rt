@@ -207,13 +207,7 @@ fn row_fault(
 }
 
 // Checks the rows of a file.
-fn check(
-    alloc: Global,
-    shaped: &Shaped,
-    file: DecFile,
-    times: i64,
-    grid: &Grid,
-) -> Result<(), Stop>
+fn check(alloc: Global, shaped: &Shaped, file: DecFile, times: i64, grid: &Grid) -> Result<(), Stop>
     requires read { IsRead shaped.now }
     requires times { IsTimes times }
     requires kind { IsX0 (user_of shaped.now).x0 times }

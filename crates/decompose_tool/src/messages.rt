@@ -180,8 +180,10 @@ fn put_entries<E: Sink>(err: &mut E, v: &[i64]) -> Result<(), PutEnd>
 
 // Puts the front of the line that says what is left.
 fn put_front<E: Sink>(err: &mut E) -> Result<(), PutEnd>
-    ensures done { OnOk result (E.held err.new ≡ append_known (E.held err.old) (text_of_parts (codes "decompose" ∷ codes ": " ∷ codes "nothing fits" ∷ []))) }
-    ensures refused { OnErr result (MayPut (text_of_parts (codes "decompose" ∷ codes ": " ∷ codes "nothing fits" ∷ [])) (E.held err.old) (E.held err.new)) }
+    ensures done { OnOk result (E.held err.new ≡ append_known (E.held err.old)
+        (text_of_parts (codes "decompose" ∷ codes ": " ∷ codes "nothing fits" ∷ []))) }
+    ensures refused { OnErr result (MayPut (text_of_parts (codes "decompose" ∷ codes ": " ∷ codes "nothing fits" ∷ [])) (E.held err.old)
+        (E.held err.new)) }
     ensures cause { HasCause (E.faults err.old) (E.faults err.new) result }
 {
     put_pieces(err, &[b"decompose", b": ", b"nothing fits"])

@@ -104,7 +104,8 @@ fn publish_walk<F: Folder, O: Sink>(
 ) -> Result<Ending, Stop>
     requires { IsMatrix walk.terms (n + 1) walk.cells.items × (n ≤ 64) }
     ensures words { result ≡ Err Stop.Usage → ⊥ }
-    ensures published { Published project.now (record { rows = walk.terms; cols = n + 1; cells = walk.cells.items }) (F.held folder.old) (F.held folder.new) (O.held out.old) (O.held out.new) result }
+    ensures published { Published project.now (record { rows = walk.terms; cols = n + 1; cells = walk.cells.items }) (F.held folder.old)
+        (F.held folder.new) (O.held out.old) (O.held out.new) result }
     ensures cause { HasCauses (F.faults folder.old) (F.faults folder.new) (O.faults out.old) (O.faults out.new) result }
 {
     let grid = lay_out(n, walk);

@@ -163,7 +163,8 @@ fn take_negative(
     requires columns { n ≤ length full.old }
     requires range { AllByRecursion InRange full.old }
     requires room { walk.old.terms < 4294967295 }
-    ensures goes { IfOk result (λ _. GoesOnWhere (Obeys system.now.equations (negated full.old)) n (unless_zero (negated full.old)) walk.old walk.new) }
+    ensures goes { IfOk result (λ _. GoesOnWhere (Obeys system.now.equations (negated full.old)) n
+        (unless_zero (negated full.old)) walk.old walk.new) }
     ensures state { IfOk result (λ _. IsOpen (length full.old) walk.new) }
     ensures few { IfOk result (λ _. walk.new.terms ≤ walk.old.terms + 1) }
 {
@@ -189,7 +190,8 @@ fn take_row(
     requires sound { IsSound (user_of shaped.now) times x.now }
     requires state { IsOpen (width shaped.now.system.equations) walk.old }
     requires room { walk.old.terms < 4294967294 }
-    ensures goes { IfOk result (λ _. GoesOverRow shaped.now.input.mat.cols shaped.now.system.tool (user_of shaped.now) times x.now walk.old walk.new) }
+    ensures goes { IfOk result (λ _. GoesOverRow shaped.now.input.mat.cols shaped.now.system.tool
+        (user_of shaped.now) times x.now walk.old walk.new) }
     ensures state { IfOk result (λ _. IsOpen (width shaped.now.system.equations) walk.new) }
     ensures few { IfOk result (λ _. walk.new.terms ≤ walk.old.terms + 2) }
 {
@@ -220,7 +222,8 @@ fn take_rows(
     requires sound { AllByRecursion (IsSound (user_of shaped.now) times) (rows_in grid.now) }
     requires state { IsOpen (width shaped.now.system.equations) walk.old }
     requires room { walk.old.terms ≤ 4194304 }
-    ensures goes { IfOk result (λ _. GoesOverRows shaped.now.input.mat.cols shaped.now.system.tool (user_of shaped.now) times (rows_in grid.now) walk.old walk.new) }
+    ensures goes { IfOk result (λ _. GoesOverRows shaped.now.input.mat.cols shaped.now.system.tool (user_of shaped.now) times
+        (rows_in grid.now) walk.old walk.new) }
     ensures state { IfOk result (λ _. IsOpen (width shaped.now.system.equations) walk.new) }
     ensures few { IfOk result (λ _. walk.new.terms ≤ walk.old.terms + 4194304) }
 {
@@ -244,7 +247,8 @@ fn take_second(
     requires sound { AllByRecursion (AreSound (user_of shaped.now)) (second_part second.now) }
     requires state { IsOpen (width shaped.now.system.equations) walk.old }
     requires room { walk.old.terms ≤ 4194304 }
-    ensures goes { IfOk result (λ _. GoesOverParts shaped.now.input.mat.cols shaped.now.system.tool (user_of shaped.now) (second_part second.now) walk.old walk.new) }
+    ensures goes { IfOk result (λ _. GoesOverParts shaped.now.input.mat.cols shaped.now.system.tool (user_of shaped.now)
+        (second_part second.now) walk.old walk.new) }
     ensures state { IfOk result (λ _. IsOpen (width shaped.now.system.equations) walk.new) }
 {
     match second {
@@ -259,12 +263,18 @@ fn start(alloc: Global, shaped: &Shaped, point: &Grid) -> Result<Walk, AllocErro
     requires width { point.now.cols ≡ shaped.now.input.mat.cols }
     requires row { point.now.rows ≡ 1 }
     requires sound { AllByRecursion (IsSound (user_of shaped.now) (times_of shaped.now.system.tool)) (rows_in point.now) }
-    ensures start { IfOk result (IsStart (full_vector (user_of shaped.now) (times_of shaped.now.system.tool) (slice_index_or (rows_in point.now) 0 []))) }
+    ensures start { IfOk result (IsStart
+        (full_vector (user_of shaped.now) (times_of shaped.now.system.tool) (slice_index_or (rows_in point.now) 0 []))) }
     ensures state { IfOk result (IsOpen (width shaped.now.system.equations)) }
 {
     let mut rest = Vec::new(alloc);
     // The row was checked, so its full vector is in range.
-    fill(shaped, times(shaped.system.tool()), row(point, 0), &mut rest)?;
+    fill(
+        shaped,
+        times(shaped.system.tool()),
+        row(point, 0),
+        &mut rest,
+    )?;
     Ok(Walk {
         rest,
         terms: 0,
@@ -282,7 +292,13 @@ pub(crate) fn walk_over(alloc: Global, shaped: &Shaped, sets: &Sets) -> Result<W
     ensures walked { IfOk result (Walked shaped.now sets.now) }
 {
     let mut walk = start(alloc, shaped, &sets.point)?;
-    take_rows(alloc, shaped, times(shaped.system.tool()), &sets.first, &mut walk)?;
+    take_rows(
+        alloc,
+        shaped,
+        times(shaped.system.tool()),
+        &sets.first,
+        &mut walk,
+    )?;
     take_second(alloc, shaped, &sets.second, &mut walk)?;
     Ok(walk)
 }

@@ -9,7 +9,6 @@ use Rattle.system_shape.specs.Problem.{equal_to, UserRow, UserSystem, Stands, fu
 use Rattle.system_shape.specs.Shape.{relation_of, user_system}
 use Rattle.system_files.specs.Inputs.{IsShaped}
 use Rattle.system_files.specs.declared.systems.Shaped.{Shaped}
-use Rattle.decompose_tool.specs.declared.ends.DecFile.{DecFile}
 use Rattle.decompose_tool.specs.declared.ends.RowFault.{RowFault}
 use Rattle.decompose_tool.specs.declared.ends.Stop.{Stop}
 use Rattle.decompose_tool.specs.declared.ends.Stop.TheVariants.{Usage, Input as BadInput, File, Shape, Row, Outside, Memory}
@@ -34,7 +33,8 @@ pub record IsRead (s : Shaped) : Type 0 where
 
 -- each row stands to c times its right side as its relation says
 abbrev pub RowsStand : List UserRow → ℤ → List ℤ → Type 0
-RowsStand rows c x = AllByRecursion (λ r. Stands r.relation (dot r.coefficients x) (r.right *ℤ c)) rows
+RowsStand rows c x =
+    AllByRecursion (λ r. Stands r.relation (dot r.coefficients x) (r.right *ℤ c)) rows
 
 -- 0 or 1
 abbrev pub IsTimes : ℤ → Type 0
@@ -131,24 +131,35 @@ GoesOnWhere P n us old new = (P × GoesOn n us old new) ⊎ ((P → ⊥) × Goes
 
 -- and over those of a row, of several rows, and of several files
 abbrev pub GoesOverRow : ℕ → Tool → UserSystem → ℤ → List ℤ → Walk → Walk → Type 0
-GoesOverRow n tool U c x old new = (us : List (List ℤ)) × AreOfRow tool U c x us × GoesOn n us old new
+GoesOverRow n tool U c x old new =
+    (us : List (List ℤ)) × AreOfRow tool U c x us × GoesOn n us old new
 
 abbrev pub GoesOverRows : ℕ → Tool → UserSystem → ℤ → List (List ℤ) → Walk → Walk → Type 0
-GoesOverRows n tool U c rows old new = (us : List (List ℤ)) × AreOfRows tool U c rows us × GoesOn n us old new
+GoesOverRows n tool U c rows old new =
+    (us : List (List ℤ)) × AreOfRows tool U c rows us × GoesOn n us old new
 
 abbrev pub GoesOverParts : ℕ → Tool → UserSystem → List Part → Walk → Walk → Type 0
-GoesOverParts n tool U parts old new = (us : List (List ℤ)) × AreCandidates tool U parts us × GoesOn n us old new
+GoesOverParts n tool U parts old new =
+    (us : List (List ℤ)) × AreCandidates tool U parts us × GoesOn n us old new
 
 -- the whole walk over the candidates of the set
 pub record Walked (s : Shaped) (sets : Sets) (walk : Walk) : Type 0 where
   pub candidates : List (List ℤ)
   pub terms : List Term
-  pub candidates_are : AreCandidates s.system.tool (user_of s) (set_parts s.system.tool sets) candidates
-  pub walk_is : IsWalk candidates (full_vector (user_of s) (times_of s.system.tool) (point_of sets)) terms walk.rest.items
+  pub candidates_are :
+      AreCandidates s.system.tool (user_of s) (set_parts s.system.tool sets) candidates
+  pub walk_is :
+      IsWalk candidates (full_vector (user_of s) (times_of s.system.tool) (point_of sets)) terms
+      walk.rest.items
   pub rows : AreRows (s.input.mat.cols + 1) (rows_of_terms s.input.mat.cols terms)
   pub cells : walk.cells.items ≡ cells_of s.input.mat.cols terms
   pub count : walk.terms ≡ length terms
 
 -- the plan of what was read
 abbrev pub plan_of : List ℕ → Shaped → Sets → Plan
-plan_of project s sets = record { project = project; tool = s.system.tool; input = s.input; sets = sets }
+plan_of project s sets = record {
+  project = project;
+  tool = s.system.tool;
+  input = s.input;
+  sets = sets;
+}

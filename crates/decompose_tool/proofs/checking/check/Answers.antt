@@ -1,6 +1,5 @@
 -- All rows were tried.
-use Rattle.std.proofs.Common.{◌≤◌, length, ap, subst, rules, SFits, w64, to_z-of_z, arith}
-use Rattle.std.specs.Prelude.{List, ℤ}
+use Rattle.std.proofs.Common.{◌≤◌, length, ap, subst, SFits, w64, to_z-of_z, arith}
 use Rattle.std.specs.List.{AllByRecursion}
 use Rattle.std.proofs.lemmas.List.{take_all}
 use Rattle.lift_core.proofs.Cells.{length-cut_rows}

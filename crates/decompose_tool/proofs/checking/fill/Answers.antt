@@ -1,5 +1,5 @@
 -- Where a difference is out of range, so is the norm of the whole.
-use Rattle.std.proofs.Common.{◌≡◌, ◌∙◌, ◌<◌, ◌++◌, ap, subst, rules, SFits, w64, to_z-of_z}
+use Rattle.std.proofs.Common.{◌≡◌, ◌∙◌, ◌<◌, ◌++◌, ap, subst, SFits, w64, to_z-of_z}
 use Rattle.std.specs.Prelude.{List, ℤ}
 use Rattle.int_vector.specs.Vectors.{norm, largest}
 use Rattle.system_shape.specs.Problem.{differences, x0_entry}

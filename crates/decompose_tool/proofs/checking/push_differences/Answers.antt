@@ -1,6 +1,5 @@
 -- One difference more is appended, or it is too wide, and then so is the whole.
-use Rattle.std.proofs.Common.{◌≡◌, ◌≤◌, ◌<◌, ◌++◌, [], length, get_or, rules, SFits, w64, to_z-of_z, arith, false}
-use Rattle.std.specs.Prelude.{List, ℤ}
+use Rattle.std.proofs.Common.{◌≡◌, ◌≤◌, ◌<◌, ◌++◌, [], length, get_or, SFits, w64, to_z-of_z, arith}
 use Rattle.int_vector.specs.Vectors.{norm, largest}
 use Rattle.decompose_tool.specs.Inside.Steps.{user_of, in_front, no_row, IsStanding}
 use Rattle.decompose_tool.proofs.Filling.{next_pushed, too_wide, all_pushed, not_negative_each, stands_at}

@@ -1,5 +1,5 @@
 -- No row is left.
-use Rattle.std.proofs.Common.{◌≤◌, length, refl, rules, SFits, w64, to_z-of_z, arith}
+use Rattle.std.proofs.Common.{◌≤◌, length, refl, SFits, w64, to_z-of_z, arith}
 use Rattle.decompose_tool.specs.Inside.Steps.{user_of}
 use Rattle.decompose_tool.proofs.Filling.{all_stand}
 use Rattle.decompose_tool.proofs.UserRows.{few_user_rows}

@@ -1,5 +1,5 @@
 -- A refusal leaves a prefix of both texts.
-use Rattle.std.proofs.Common.{◌∷◌, ◌++◌, [], codes}
+use Rattle.std.proofs.Common.{◌∷◌, [], codes}
 use Rattle.std.proofs.lemmas.Result.{err_from_is_err_and, on_ok_weaker, on_err_weaker}
 use Rattle.decompose_tool.specs.Messages.{entries}
 use Rattle.decompose_tool.proofs.Texts.{parts_first, parts_second, parts_both}

@@ -1,4 +1,4 @@
-use Rattle.std.proofs.Common.{sym, subst}
+use Rattle.std.proofs.Common.{subst}
 use Rattle.std.specs.Prelude.{List, ℤ}
 use Rattle.outside.specs.Pieces.{MayPut}
 use Rattle.decompose_tool.specs.Messages.{left_message}

@@ -1,8 +1,7 @@
 -- The parts of a row are found by its place in three lists.
-use Rattle.std.proofs.Common.{◌≡◌, ◌∙◌, length, get_or, pos, sym, ap, subst, rules, SFits, w64, to_z-of_z, arith}
-use Rattle.std.specs.Prelude.{ℕ, ℤ, nat_abs, ◌*ℤ◌}
+use Rattle.std.proofs.Common.{◌≡◌, length, get_or, pos, subst, rules, SFits, w64, to_z-of_z, arith}
+use Rattle.std.specs.Prelude.{ℕ, ◌*ℤ◌}
 use mir.Syntax.{w128}
-use Rattle.int_vector.specs.Vectors.{dot}
 use Rattle.lift_core.proofs.Cells.{length-cut_rows}
 use Rattle.mat_files.specs.declared.relations.Rel.TheVariants.{Equal}
 use Rattle.system_shape.specs.Shape.{given_relations, given_rights}

@@ -1,5 +1,5 @@
 -- What the walk comes to.
-use Rattle.std.proofs.Common.{◌≡◌, ◌∙◌, ◌+◌, ap, sym, arith}
+use Rattle.std.proofs.Common.{◌∙◌, ◌+◌, ap, sym, arith}
 use Rattle.decompose_tool.specs.Rows.{is_zero}
 use Rattle.decompose_tool.proofs.Concluding.{published_ends, is_matrix}
 use Rattle.decompose_tool.proofs.Plans.{left_finished, never_left}

@@ -1,7 +1,6 @@
 -- The least of the entries' counts.
-use Rattle.std.proofs.Common.{◌≤◌, ◌+◌, get_or, pos, sym, subst, rules, SFits, w64, to_z-of_z, arith}
+use Rattle.std.proofs.Common.{◌+◌, get_or, pos, sym, subst, rules, SFits, w64, to_z-of_z, arith}
 use Rattle.std.specs.Prelude.{ℕ}
-use Rattle.int_vector.specs.Vectors.{largest}
 use Rattle.decompose_tool.proofs.Counting.{Bounds, bounds_more, bounds_most}
 use Rattle.decompose_tool.proofs.walking.count.Goals as goal
 

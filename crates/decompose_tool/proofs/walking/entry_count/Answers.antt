@@ -1,6 +1,6 @@
 -- The three cases: always, never, and as often as the quotient says.
-use Rattle.std.proofs.Common.{◌≡◌, ◌∙◌, refl, ap, rules, SFits, w64, to_z-of_z, of_z, inl, inr}
-use Rattle.std.specs.Prelude.{ℤ, pos, nat_abs}
+use Rattle.std.proofs.Common.{◌≡◌, ap, SFits, w64, to_z-of_z, of_z, inl, inr}
+use Rattle.std.specs.Prelude.{nat_abs}
 use Rattle.decompose_tool.proofs.Counting.{never, quotient}
 use Rattle.decompose_tool.proofs.walking.entry_count.Goals as goal
 

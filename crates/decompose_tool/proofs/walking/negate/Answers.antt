@@ -1,9 +1,9 @@
 -- One entry more is negated.
 use Rattle.std.proofs.Common.{◌≡◌, ◌∙◌, ◌<◌, length, get_or, pos, sym, ap, subst, rules, SFits, w64, to_z-of_z, arith}
-use Rattle.std.specs.Prelude.{ℤ, neg_ℤ}
+use Rattle.std.specs.Prelude.{neg_ℤ}
 use Rattle.int_vector.specs.Range.{InRange}
 use Rattle.int_vector.specs.Vectors.{negated}
-use Rattle.decompose_tool.proofs.InPlace.{replaced_start, replaced_more, replaced_at, length-negated_here, negated-at, range_at}
+use Rattle.decompose_tool.proofs.InPlace.{replaced_more, replaced_at, negated-at, range_at}
 use Rattle.decompose_tool.proofs.walking.negate.Goals as goal
 
 pub loop-j-preserved : goal.loop-j-preserved

@@ -1,5 +1,5 @@
 -- One entry more is what is left.
-use Rattle.std.proofs.Common.{◌≡◌, ◌∙◌, ◌<◌, length, get_or, pos, sym, ap, ap₂, subst, rules, SFits, w64, to_z-of_z, arith}
+use Rattle.std.proofs.Common.{◌≡◌, ◌∙◌, ◌<◌, length, get_or, pos, sym, ap, subst, rules, SFits, w64, to_z-of_z, arith}
 use Rattle.std.specs.Prelude.{ℤ, ◌*ℤ◌, ◌-ℤ◌}
 use Rattle.int_vector.specs.Range.{InRange}
 use Rattle.int_vector.specs.Operations.{subtract}

@@ -1,6 +1,6 @@
 -- The row's full vector is in the buffer; for graver the negative follows.
-use Rattle.std.proofs.Common.{◌≡◌, ◌∙◌, ap, sym, subst, inl, inr, arith, length, rules, SFits, w64, to_z-of_z}
-use Rattle.std.specs.Prelude.{List, ℤ, ℕ}
+use Rattle.std.proofs.Common.{◌≡◌, ◌∙◌, ap, sym, subst, inl, inr, arith, length, SFits, w64, to_z-of_z}
+use Rattle.std.specs.Prelude.{ℕ}
 use Rattle.std.specs.List.{AllByRecursion}
 use Rattle.std.proofs.lemmas.Result.{IfOk-weaker}
 use Rattle.int_vector.specs.Range.{InRange}
@@ -8,7 +8,7 @@ use Rattle.int_vector.specs.Vectors.{negated}
 use Rattle.lift_core.specs.ToolSystems.{width}
 use Rattle.system_shape.specs.Problem.{full_vector}
 use Rattle.decompose_tool.specs.Rows.{unless_zero}
-use Rattle.decompose_tool.specs.Inside.Steps.{user_of, Obeys, IsOpen, GoesOn, GoesOnWhere}
+use Rattle.decompose_tool.specs.Inside.Steps.{user_of, Obeys, IsOpen, GoesOnWhere}
 use Rattle.decompose_tool.proofs.Filling.{norm_range}
 use Rattle.decompose_tool.proofs.FullVectors.{filled, full_width}
 use Rattle.decompose_tool.proofs.RowWalks.{plain_row, graver_row}

@@ -1,5 +1,5 @@
 -- The walk goes on over one row more.
-use Rattle.std.proofs.Common.{◌≤◌, ◌<◌, length, subst, rules, SFits, w64, to_z-of_z, arith}
+use Rattle.std.proofs.Common.{◌≤◌, ◌<◌, length, subst, SFits, w64, to_z-of_z, arith}
 use Rattle.std.specs.Prelude.{List, ℤ}
 use Rattle.std.proofs.lemmas.List.{take_all}
 use Rattle.system_files.specs.Kernel.{rows_in}
