@@ -92,8 +92,8 @@ tried_itself upper cost x v change r e f h =
     (none_below upper cost x v.now (negative_at_most (dot cost v.now) l))
 
 pub tried_negative : (upper cost x : List ℤ) (v : Bor (List ℤ)) (change : ℤ) (r : Option Candidate) → change ≡ dot cost v.now → int_lt (pos 0) change ≡ true →
-    MatchOption r (IsWithinBounds upper (add x (negated v.now)) → ⊥) (λ c. (c ≡ record { vector = v; negative = true }) × IsWithinBounds upper (add x
-    (negated v.now))) →
+    MatchOption r (IsWithinBounds upper (add x (negated v.now)) → ⊥)
+    (λ c. (c ≡ record { vector = v; negative = true }) × IsWithinBounds upper (add x (negated v.now))) →
     FirstHelp upper cost x (v.now ∷ negated v.now ∷ []) (option_map vector_of r)
 tried_negative upper cost x v change r e f h =
     let l : pos 0 <ℤ dot cost v.now = subst (λ (p : ℤ). pos 0 <ℤ p) e (less_true (pos 0) change f) in

@@ -143,8 +143,8 @@ pub rows_long : (m w : ℕ) (cells : List ℤ) → length cells ≡ m * w → Al
 rows_long m w cells e = recursion_from_All (λ r. length r ≡ w) (cut_rows m w cells) (cut_rows-lengths m w cells e)
 
 pub is_climb : (p : Problem) (budget : ℕ) (steps : List Step) (point : List ℤ) → IsProblem p → AreInKernel p →
-    IsPath p.upper.cells p.cost.cells
-    (rows_in p.set) p.start.cells steps point → IsWithinBounds p.upper.cells point → NoneHelps p.upper.cells p.cost.cells point (candidates (rows_in p.set)) →
+    IsPath p.upper.cells p.cost.cells (rows_in p.set) p.start.cells steps point →
+    IsWithinBounds p.upper.cells point → NoneHelps p.upper.cells p.cost.cells point (candidates (rows_in p.set)) →
     length steps ≤ budget → IsClimb p budget steps point
 is_climb p budget steps point h kernel path within stuck few =
     let long : AllByRecursion (λ g. length g ≡ p.mat.cols) (rows_in p.set) =
