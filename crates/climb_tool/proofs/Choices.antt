@@ -75,7 +75,8 @@ negative_at_most a h = grind (arith, ints)
 
 first_of_tried : (upper cost x : List ℤ) (vectors : List (List ℤ)) (W : Type 0) (candidate : Candidate) (r : Option Candidate) →
     MatchOption r (W → ⊥) (λ c. (c ≡ candidate) × W) →
-    (W → FirstHelp upper cost x vectors (Some (vector_of candidate))) → ((W → ⊥) → FirstHelp upper cost x vectors None) → FirstHelp upper cost x vectors (option_map vector_of r)
+    (W → FirstHelp upper cost x vectors (Some (vector_of candidate))) →
+    ((W → ⊥) → FirstHelp upper cost x vectors None) → FirstHelp upper cost x vectors (option_map vector_of r)
 first_of_tried upper cost x vectors W candidate None h taken left = left h
 first_of_tried upper cost x vectors W candidate (Some c) h taken left =
     subst (λ (v : List ℤ). FirstHelp upper cost x vectors (Some v)) (ap vector_of (sym h.0)) (taken h.1)
@@ -91,7 +92,8 @@ tried_itself upper cost x v change r e f h =
     (none_below upper cost x v.now (negative_at_most (dot cost v.now) l))
 
 pub tried_negative : (upper cost x : List ℤ) (v : Bor (List ℤ)) (change : ℤ) (r : Option Candidate) → change ≡ dot cost v.now → int_lt (pos 0) change ≡ true →
-    MatchOption r (IsWithinBounds upper (add x (negated v.now)) → ⊥) (λ c. (c ≡ record { vector = v; negative = true }) × IsWithinBounds upper (add x (negated v.now))) →
+    MatchOption r (IsWithinBounds upper (add x (negated v.now)) → ⊥)
+    (λ c. (c ≡ record { vector = v; negative = true }) × IsWithinBounds upper (add x (negated v.now))) →
     FirstHelp upper cost x (v.now ∷ negated v.now ∷ []) (option_map vector_of r)
 tried_negative upper cost x v change r e f h =
     let l : pos 0 <ℤ dot cost v.now = subst (λ (p : ℤ). pos 0 <ℤ p) e (less_true (pos 0) change f) in

@@ -27,7 +27,8 @@ use Rattle.climb_tool.specs.Ends.{Published, EndsWith, Ends}
 module _ (project : List ℕ) (p : Problem) (budget : ℕ) (taken : List Step) (point : List ℤ) (opt steps : Matrix) (reached : Reached)
     (climb : IsClimb p budget taken point)
     (wide : length point ≡ p.mat.cols) (long : AllByRecursion (λ row. length row ≡ p.mat.cols + 1) (step_rows taken))
-    (opt_is : opt ≡ grid_of p.mat.cols (point ∷ [])) (steps_is : steps ≡ grid_of (p.mat.cols + 1) (step_rows taken)) (reached_is : reached ≡ reached_at p taken point) where
+    (opt_is : opt ≡ grid_of p.mat.cols (point ∷ [])) (steps_is : steps ≡ grid_of (p.mat.cols + 1) (step_rows taken))
+    (reached_is : reached ≡ reached_at p taken point) where
   opt_text : text_of opt ≡ text_of_rows p.mat.cols (point ∷ [])
   opt_text = ap text_of opt_is ∙ text_of-rows p.mat.cols (point ∷ []) (wide, tt)
 
@@ -38,7 +39,8 @@ module _ (project : List ℕ) (p : Problem) (budget : ℕ) (taken : List Step) (
   files_are = ap₂ (λ s t. record { ending = codes ".opt"; text = s } ∷ record { ending = codes ".steps"; text = t } ∷ []) opt_text steps_text
 
   both_are : (files : Files) → both_written project opt steps (Some files)
-      ≡ Some (written (project ++ codes ".steps") (text_of_rows (p.mat.cols + 1) (step_rows taken)) (written (project ++ codes ".opt") (text_of_rows p.mat.cols (point ∷ [])) files))
+      ≡ Some (written (project ++ codes ".steps") (text_of_rows (p.mat.cols + 1) (step_rows taken)) (written (project ++ codes ".opt")
+      (text_of_rows p.mat.cols (point ∷ [])) files))
   both_are files = ap₂ (λ s t. Some (written (project ++ codes ".steps") t (written (project ++ codes ".opt") s files))) opt_text steps_text
 
   cut : (files : Files) (new : Option Files) (out out' : Option (List ℕ)) → Cut project opt steps reached (Some files) new out out' →
@@ -131,21 +133,25 @@ ends_of plan q t (Err (Infeasible j)) e h = absurd h
 concluded_at : (words : List (List ℕ)) (command : Command) (p : Problem) (old new : Option Files) (out out' : Option (List ℕ)) (result : Result Reached Stop) →
     command_in words ≡ Some command →
     IfSome old (λ files. problem_in command.project files ≡ Ok p) →
-    IfSome old (λ files. EndsWith command.project p command.budget (record { files_before = files; files_after = new; out_before = out; out_after = out' }) result) →
+    IfSome old (λ files. EndsWith command.project p command.budget
+    (record { files_before = files; files_after = new; out_before = out; out_after = out' }) result) →
     IfSome old (λ files. Ends (planned words files) (record { files_before = files; files_after = new; out_before = out; out_after = out' }) result)
 concluded_at words command p None new out out' result e f h = tt
 concluded_at words command p (Some files) new out out' result e f h =
     ends_of (planned words files) (record { project = command.project; budget = command.budget; problem = p })
     (record { files_before = files; files_after = new; out_before = out; out_after = out' }) result (planned_is words command files p e f) h
 
-pub ends_concluded : (words : List (List ℕ)) (command : Command) (p : Problem) (old mid new : Option Files) (out out' : Option (List ℕ)) (result : Result Reached Stop) →
+pub ends_concluded : (words : List (List ℕ)) (command : Command) (p : Problem) (old mid new : Option Files) (out out' : Option (List ℕ))
+    (result : Result Reached Stop) →
     command_in words ≡ Some command → mid ≡ old →
     IfSome old (λ files. problem_in command.project files ≡ Ok p) →
-    IfSome mid (λ files. EndsWith command.project p command.budget (record { files_before = files; files_after = new; out_before = out; out_after = out' }) result) →
+    IfSome mid (λ files. EndsWith command.project p command.budget
+    (record { files_before = files; files_after = new; out_before = out; out_after = out' }) result) →
     IfSome old (λ files. Ends (planned words files) (record { files_before = files; files_after = new; out_before = out; out_after = out' }) result)
 ends_concluded words command p old mid new out out' result e same f h =
     concluded_at words command p old new out out' result e f
-    (subst (λ (o : Option Files). IfSome o (λ files. EndsWith command.project p command.budget (record { files_before = files; files_after = new; out_before = out; out_after = out' }) result)) same h)
+    (subst (λ (o : Option Files). IfSome o (λ files. EndsWith command.project p command.budget
+    (record { files_before = files; files_after = new; out_before = out; out_after = out' }) result)) same h)
 
 -- ---- the line on standard error
 pub said : (text : List ℕ) (old new : Option (List ℕ)) (r : Result (Unit {0}) PutEnd) → OnOk r (new ≡ append_known old text) →

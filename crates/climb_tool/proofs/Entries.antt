@@ -113,21 +113,23 @@ entry_of_sum (u ∷ upper) (a ∷ x) (b ∷ g) (suc i) d l e f h = entry_of_sum 
 -- ---- how often an entry can be moved
 up_room : (u a : ℤ) (s d : ℕ) → pos 0 ≤ℤ a → a ≤ℤ u → 0 < s → Fits u a (pos d *ℤ pos s) ↔ (d ≤ nat_abs (u -ℤ a) / s)
 up_room u a s d low high h =
-    (λ f. (le-div_iff_mul-le {k = s} {x = d} {y = nat_abs (u -ℤ a)} h).1 (below f), λ f. above ((le-div_iff_mul-le {k = s} {x = d} {y = nat_abs (u -ℤ a)} h).0 f)) where
-  below : Fits u a (pos d *ℤ pos s) → d * s ≤ nat_abs (u -ℤ a)
-  below f = grind (arith, ints, f, low, high)
+    let q : (d ≤ nat_abs (u -ℤ a) / s) ↔ (d * s ≤ nat_abs (u -ℤ a)) = le-div_iff_mul-le {k = s} {x = d} {y = nat_abs (u -ℤ a)} h in
+    (λ f. q.1 (below f), λ f. above (q.0 f)) where
+      below : Fits u a (pos d *ℤ pos s) → d * s ≤ nat_abs (u -ℤ a)
+      below f = grind (arith, ints, f, low, high)
 
-  above : d * s ≤ nat_abs (u -ℤ a) → Fits u a (pos d *ℤ pos s)
-  above f = grind (arith, ints, f, low, high)
+      above : d * s ≤ nat_abs (u -ℤ a) → Fits u a (pos d *ℤ pos s)
+      above f = grind (arith, ints, f, low, high)
 
 down_room : (u a : ℤ) (s d : ℕ) → pos 0 ≤ℤ a → a ≤ℤ u → Fits u a (pos d *ℤ negsuc s) ↔ (d ≤ nat_abs a / suc s)
 down_room u a s d low high =
-    (λ f. (le-div_iff_mul-le {k = suc s} {x = d} {y = nat_abs a} (omega arith)).1 (below f), λ f. above ((le-div_iff_mul-le {k = suc s} {x = d} {y = nat_abs a} (omega arith)).0 f)) where
-  below : Fits u a (pos d *ℤ negsuc s) → d * suc s ≤ nat_abs a
-  below f = grind (arith, ints, f, low, high)
+    let q : (d ≤ nat_abs a / suc s) ↔ (d * suc s ≤ nat_abs a) = le-div_iff_mul-le {k = suc s} {x = d} {y = nat_abs a} (omega arith) in
+    (λ f. q.1 (below f), λ f. above (q.0 f)) where
+      below : Fits u a (pos d *ℤ negsuc s) → d * suc s ≤ nat_abs a
+      below f = grind (arith, ints, f, low, high)
 
-  above : d * suc s ≤ nat_abs a → Fits u a (pos d *ℤ negsuc s)
-  above f = grind (arith, ints, f, low, high)
+      above : d * suc s ≤ nat_abs a → Fits u a (pos d *ℤ negsuc s)
+      above f = grind (arith, ints, f, low, high)
 
 no_move : (u a : ℤ) (d : ℕ) → pos 0 ≤ℤ a → a ≤ℤ u → Fits u a (pos d *ℤ pos 0)
 no_move u a d low high = grind (arith, ints, low, high)
@@ -251,7 +253,8 @@ greatest_step upper x g i d most r new t l point long is least f h =
 
 pub greatest_end : (upper x g : List ℤ) (i most : ℕ) → length upper ≤ i → AllByRecursion InRange upper → IsWithinBounds upper x →
     length g ≡ length upper → (IsZero g → ⊥) → most ≤ 9223372036854775807 →
-    ((d : ℕ) → d ≤ 9223372036854775807 → IsWithinBounds upper (add x (times d g)) ↔ ((d ≤ most) × IsWithinBounds (drop i upper) (add (drop i x) (drop i (times d g))))) → IsGreatest upper x g most
+    ((d : ℕ) → d ≤ 9223372036854775807 → IsWithinBounds upper (add x (times d g)) ↔ ((d ≤ most) × IsWithinBounds (drop i upper) (add (drop i x)
+    (drop i (times d g))))) → IsGreatest upper x g most
 greatest_end upper x g i most l range point long nonzero small h = record {
   within = (h most small).1 (omega arith, within_end upper x (times most g) i l (sym (within_length upper x point)) (length-times most g ∙ long));
   most = λ d w. ((h d (steps_bounded upper x g d range point long nonzero w)).0 w).0;

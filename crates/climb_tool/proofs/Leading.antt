@@ -98,8 +98,11 @@ no_change p q c e = ap (λ z. p +ℤ (pos c *ℤ z)) e ∙ nothing p c where
 same_after : (rows : List (List ℤ)) (x g : List ℤ) (c : ℕ) → length x ≡ length g → IsInKernel rows g →
     AllByRecursion (λ r. dot r (add x (times c g)) ≡ dot r x) rows
 same_after [] x g c l k = tt
-same_after (r ∷ rows) x g c l k =
-    (dot-add r x (times c g) (l ∙ sym (length-times c g)) ∙ ap (λ p. dot r x +ℤ p) (dot-times c r g) ∙ no_change (dot r x) (dot r g) c k.0, same_after rows x g c l k.1)
+same_after (r ∷ rows) x g c l k = (
+  dot-add r x (times c g) (l ∙ sym (length-times c g)) ∙ ap (λ p. dot r x +ℤ p) (dot-times c r g) ∙ no_change (dot r x)
+      (dot r g) c k.0,
+  same_after rows x g c l k.1,
+)
 
 same_through : (rows : List (List ℤ)) (x y z : List ℤ) → AllByRecursion (λ r. dot r y ≡ dot r x) rows →
     AllByRecursion (λ r. dot r z ≡ dot r y) rows → AllByRecursion (λ r. dot r z ≡ dot r x) rows
@@ -131,7 +134,8 @@ module _ (n : ℕ) (upper cost : List ℤ) (rows set : List (List ℤ)) (long : 
   same_along kernel x [] y l p = same_here rows x y p
   same_along kernel x (s ∷ steps) y l p =
       same_through rows x (after_step x s) y
-      (same_after rows x s.by s.count (l ∙ sym (step_long x s p.0)) (first_has (IsInKernel rows) upper cost x (candidates set) s.by (candidates_kernel rows set kernel) p.0.first))
+      (same_after rows x s.by s.count (l ∙ sym (step_long x s p.0)) (first_has (IsInKernel rows) upper cost x (candidates set) s.by
+      (candidates_kernel rows set kernel) p.0.first))
       (same_along kernel (after_step x s) steps y (after_long x s p.0) p.1)
 
 -- ---- the path of a problem
@@ -139,7 +143,8 @@ pub rows_long : (m w : ℕ) (cells : List ℤ) → length cells ≡ m * w → Al
 rows_long m w cells e = recursion_from_All (λ r. length r ≡ w) (cut_rows m w cells) (cut_rows-lengths m w cells e)
 
 pub is_climb : (p : Problem) (budget : ℕ) (steps : List Step) (point : List ℤ) → IsProblem p → AreInKernel p →
-    IsPath p.upper.cells p.cost.cells (rows_in p.set) p.start.cells steps point → IsWithinBounds p.upper.cells point → NoneHelps p.upper.cells p.cost.cells point (candidates (rows_in p.set)) →
+    IsPath p.upper.cells p.cost.cells (rows_in p.set) p.start.cells steps point →
+    IsWithinBounds p.upper.cells point → NoneHelps p.upper.cells p.cost.cells point (candidates (rows_in p.set)) →
     length steps ≤ budget → IsClimb p budget steps point
 is_climb p budget steps point h kernel path within stuck few =
     let long : AllByRecursion (λ g. length g ≡ p.mat.cols) (rows_in p.set) =
@@ -177,7 +182,8 @@ walk_more p old new steps g n h w long range small first greatest point cells co
     let s : Step = record { count = n; by = g } in (
       steps ++ (s ∷ []),
       record {
-        leads = path_more p.upper.cells p.cost.cells (rows_in p.set) p.start.cells steps old.point.items new.point.items s w.leads (record { first = first; greatest = greatest }) point;
+        leads = path_more p.upper.cells p.cost.cells (rows_in p.set) p.start.cells steps old.point.items new.point.items s w.leads
+            (record { first = first; greatest = greatest }) point;
         within = subst (IsWithinBounds p.upper.cells) (sym point) greatest.within;
         cells = cells_more steps s old.cells.items new.cells.items w.cells cells;
         count = count ∙ omega (arith, w.count, length_more steps s);

@@ -38,7 +38,8 @@ negative_candidate : (set : List (List ℤ)) (g : List ℤ) → Contains set (ne
 negative_candidate [] g c = absurd (contains_nothing (negated g) c)
 negative_candidate (h ∷ set) g c =
     elim (contains_cases h set (negated g) c) [
-      | inl e ↦ subst (Contains (candidates (h ∷ set))) (ap negated e ∙ negated_twice g) (contains_tail h (negated h ∷ candidates set) (negated h) (contains_head (negated h) (candidates set)))
+      | inl e ↦ subst (Contains (candidates (h ∷ set))) (ap negated e ∙ negated_twice g) (contains_tail h (negated h ∷ candidates set) (negated h)
+          (contains_head (negated h) (candidates set)))
       | inr d ↦ contains_tail h (negated h ∷ candidates set) g (contains_tail (negated h) (candidates set) g (negative_candidate set g d))
     ]
 

@@ -27,7 +27,8 @@ pub returns-clause-first : goal.returns-clause-first
 returns-clause-first c =
     let p = c.args.problem.now in
     let all : length (rows_in p.set) ≤ c.loop-i.i = omega (arith, c.row_count-i-end.ensures.count) in
-    subst (λ (rows : List (List ℤ)). NoneHelps p.upper.cells p.cost.cells c.args.x.now (candidates rows)) (take_all c.loop-i.i (rows_in p.set) all) c.loop-i.invariant
+    subst (λ (rows : List (List ℤ)). NoneHelps p.upper.cells p.cost.cells c.args.x.now (candidates rows)) (take_all c.loop-i.i
+    (rows_in p.set) all) c.loop-i.invariant
 
 pub helping-requires-clause-small : goal.helping-requires-clause-small
 helping-requires-clause-small c =

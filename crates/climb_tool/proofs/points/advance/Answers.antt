@@ -50,7 +50,8 @@ moved-requires-clause-after c =
     let is : s ≡ turned_entry c.args.candidate.negative (get_or v i (pos 0)) = simp to_z-of_z at c.turned_entry-step.ensures in
     let long : length g ≡ length upper = length-turned c.args.candidate.negative v ∙ c.requires.vector in
     let at : get_or (times n g) i (pos 0) ≡ pos n *ℤ s =
-    entry_times n g i (pos 0) (omega (arith, l, long)) ∙ ap (λ z. pos n *ℤ z) (entry_turned c.args.candidate.negative v i (pos 0) (omega (arith, l, c.requires.vector)) ∙ sym is) in
+    entry_times n g i (pos 0) (omega (arith, l, long))
+    ∙ ap (λ z. pos n *ℤ z) (entry_turned c.args.candidate.negative v i (pos 0) (omega (arith, l, c.requires.vector)) ∙ sym is) in
     let f : Fits (get_or upper i (pos 0)) (get_or start i (pos 0)) (get_or (times n g) i (pos 0)) =
     entry_of_sum upper start (times n g) i (pos 0) l (sym (within_length upper start c.requires.point)) (length-times n g ∙ long) c.requires.within in
     let k : Fits (get_or upper i (pos 0)) (get_or x i (pos 0)) (pos n *ℤ s) =
@@ -77,10 +78,12 @@ loop-i-preserved c =
     let is : s ≡ turned_entry c.args.candidate.negative (get_or v i (pos 0)) = simp to_z-of_z at c.turned_entry-step.ensures in
     let long : length g ≡ length upper = length-turned c.args.candidate.negative v ∙ c.requires.vector in
     let at : get_or (times n g) i (pos 0) ≡ pos n *ℤ s =
-    entry_times n g i (pos 0) (omega (arith, l, long)) ∙ ap (λ z. pos n *ℤ z) (entry_turned c.args.candidate.negative v i (pos 0) (omega (arith, l, c.requires.vector)) ∙ sym is) in
+    entry_times n g i (pos 0) (omega (arith, l, long))
+    ∙ ap (λ z. pos n *ℤ z) (entry_turned c.args.candidate.negative v i (pos 0) (omega (arith, l, c.requires.vector)) ∙ sym is) in
     let sum : y ≡ get_or x i (pos 0) +ℤ (pos n *ℤ s) = simp to_z-of_z at c.moved.ensures in
     let new : y ≡ get_or start i (pos 0) +ℤ get_or (times n g) i (pos 0) =
-    moved_entry upper start (times n g) x i y c.loop-i.invariant.length c.requires.point (length-times n g ∙ long) l c.loop-i.invariant.others (sum ∙ ap (λ z. get_or x i (pos 0) +ℤ z) (sym at)) in
+    moved_entry upper start (times n g) x i y c.loop-i.invariant.length c.requires.point (length-times n g ∙ long) l c.loop-i.invariant.others
+    (sum ∙ ap (λ z. get_or x i (pos 0) +ℤ z) (sym at)) in
     simp to_z-of_z (record {
       length = length-set x i y ∙ c.loop-i.invariant.length;
       moved = moved_taken upper start (times n g) x i y c.loop-i.invariant.length c.requires.point (length-times n g ∙ long) l c.loop-i.invariant.moved new;

@@ -33,8 +33,11 @@ returns-then-not-fits c =
     let is : c.turned_entry.result ≡ turned_entry c.args.candidate.negative (get_or v i (pos 0)) = simp to_z-of_z at c.turned_entry.ensures in
     let t : c.turned_entry.result ≡ get_or g i (pos 0) = is ∙ sym (entry_turned c.args.candidate.negative v i (pos 0) (omega (arith, l, c.requires.vector))) in
     let long : length g ≡ length upper = length-turned c.args.candidate.negative v ∙ c.requires.vector in
-    let f : IsTrue c.fits.result ↔ Fits (get_or upper i (pos 0)) (get_or x i (pos 0)) c.turned_entry.result = simp to_z-of_z at c.fits.ensures in
-    (λ e. absurd (cc), λ w. absurd (fits_not upper x g i c.turned_entry.result l c.requires.point long t (λ k. clash c.fits.result c.if-not-fits.true (f.1 k)) w)) where
+    let f : IsTrue c.fits.result ↔ Fits (get_or upper i (pos 0)) (get_or x i (pos 0)) c.turned_entry.result = simp to_z-of_z at c.fits.ensures in (
+      λ e. absurd (cc),
+      λ w. absurd (fits_not upper x g i c.turned_entry.result l c.requires.point long t (λ k. clash c.fits.result c.if-not-fits.true
+          (f.1 k)) w),
+    ) where
       clash : (b : Bool) → b ≡ false → b ≡ true → ⊥
       clash b e k = cc
 
@@ -63,6 +66,7 @@ returns c =
     let g : List ℤ = vector_of c.args.candidate in
     let l : length upper ≤ c.loop-i.i = omega arith in (
       λ e. c.loop-i.invariant.1
-          (within_end upper x g c.loop-i.i l (sym (within_length upper x c.requires.point)) (length-turned c.args.candidate.negative c.args.candidate.vector.now ∙ c.requires.vector)),
+          (within_end upper x g c.loop-i.i l (sym (within_length upper x c.requires.point))
+          (length-turned c.args.candidate.negative c.args.candidate.vector.now ∙ c.requires.vector)),
       λ w. refl,
     )

@@ -8,7 +8,8 @@ use Rattle.climb_tool.proofs.top.lay_out.Goals as goal
 
 pub cost_of-requires-clause-small : goal.cost_of-requires-clause-small
 cost_of-requires-clause-small c =
-    subst (λ (v : List ℤ). norm v ≤ 590295810358705651712) (sym c.deref.ensures.value) (point_norm c.args.problem.now c.args.path.point.items c.requires.problem c.requires.walked.1.within)
+    subst (λ (v : List ℤ). norm v ≤ 590295810358705651712) (sym c.deref.ensures.value)
+    (point_norm c.args.problem.now c.args.path.point.items c.requires.problem c.requires.walked.1.within)
 
 pub invariant_of-result : goal.invariant_of-result
 invariant_of-result c =

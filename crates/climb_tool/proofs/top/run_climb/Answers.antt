@@ -8,6 +8,7 @@ pub returns-clause-ends : goal.returns-clause-ends
 returns-clause-ends g c = (
   c.finish-outcome.result,
   c.end-end.ensures,
-  subst (λ (p : List ℕ). Says p c.finish-outcome.result (g.E.Sink.held c.args.err.now) (g.E.Sink.held c.say.new.err)) c.project_or_nothing.ensures c.say.ensures,
+  subst (λ (p : List ℕ). Says p c.finish-outcome.result (g.E.Sink.held c.args.err.now)
+      (g.E.Sink.held c.say.new.err)) c.project_or_nothing.ensures c.say.ensures,
   c.finish-outcome.ensures.ends,
 )
