@@ -14,7 +14,7 @@ use Rattle.lift_core.proofs.Walks.{pairs_before_next}
 use Rattle.stage_store.specs.Stage.{StageValue, IsStage, IsDefined, used_of}
 use Rattle.stage_store.specs.Lifted.{IsLift}
 use Rattle.stage_store.specs.declared.stage.Lifted.TheVariants.{Next}
-use Rattle.stage_store.proofs.Onward.{defined_after}
+use Rattle.stage_store.proofs.ClosedNorm.{defined_after}
 use Rattle.stage_store.proofs.Starting.{lift_result_defined}
 use Rattle.lift_run.specs.Counts.{closed_norms}
 use Rattle.lift_run.specs.Keeps.{IsClosing, Leads, leads_nowhere, leads_on, leads_up, EndsHere}

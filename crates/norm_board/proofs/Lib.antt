@@ -5,7 +5,7 @@ pub mod Hands
 pub mod Own
 pub mod Puts
 pub mod Rows
-pub mod RunLemmas
+pub mod NumberRuns
 pub mod Closing
 pub mod Shown
 pub mod Ends

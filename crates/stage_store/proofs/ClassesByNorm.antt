@@ -13,7 +13,7 @@ use Rattle.stage_store.specs.Classes.{ClassValue, AreClasses, places, with_class
 use Rattle.stage_store.proofs.Classes.{each_at}
 use Rattle.stage_store.specs.Opened.{AscendWithin}
 use Rattle.stage_store.proofs.MoreRows.{ids_after}
-use Rattle.stage_store.proofs.Onward.{class_below}
+use Rattle.stage_store.proofs.ClosedNorm.{class_below}
 use Rattle.stage_store.proofs.Publish.{more_classes}
 use Rattle.stage_store.proofs.CountedPairs.{norms_ascend, place_in_front, place_behind}
 

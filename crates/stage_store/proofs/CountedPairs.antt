@@ -14,7 +14,7 @@ use Rattle.lift_core.proofs.Counts.{sum_by-same, sum_by-nothing}
 use Rattle.stage_store.specs.Classes.{row_at}
 use Rattle.stage_store.specs.CountedPairs.{IsWithinReach, IsBeyondReach}
 use Rattle.stage_store.proofs.Classes.{each_at}
-use Rattle.stage_store.proofs.Held.{not_more}
+use Rattle.stage_store.proofs.StageFields.{not_more}
 
 -- ---- norms ascend with places
 pub norms_ascend : (rows : List (List ℤ)) (i j : ℕ) → IsStrictlySortedBy norm_cmp rows

@@ -2,7 +2,7 @@ pub mod Indexed
 pub mod Classes
 pub mod Pairs
 pub mod Least
-pub mod Held
+pub mod StageFields
 pub mod Sums
 pub mod Numbering
 pub mod Merge
@@ -13,10 +13,10 @@ pub mod LineBits
 pub mod Levels
 pub mod Closing
 pub mod Used
-pub mod Front
-pub mod Onward
+pub mod WaitingFront
+pub mod ClosedNorm
 pub mod UnitVectors
-pub mod Kept
+pub mod FirstRows
 pub mod Starting
 pub mod Ordered
 pub mod NumberedSums

@@ -10,7 +10,7 @@ use Rattle.stage_store.specs.Laws.{AreNumbered}
 use Rattle.lift_core.proofs.Lists.{contains_cases, contains_head, contains_tail, contains_nothing, not_before_itself, each_contained}
 use Rattle.lift_core.proofs.Orders.{in_filter, from_filter, in_map, from_map, norm_cmp_total}
 use Rattle.stage_store.specs.Classes.{pairs_of, IsPairAt, row_at}
-use Rattle.stage_store.proofs.Held.{is_less, less_is}
+use Rattle.stage_store.proofs.StageFields.{is_less, less_is}
 use Rattle.stage_store.proofs.Classes.{get_or-default}
 use Rattle.std.proofs.Common.{get_or}
 

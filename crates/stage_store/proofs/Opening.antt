@@ -36,7 +36,7 @@ use Rattle.stage_store.specs.Sieve.{IsKept, IsSieve, pair_by}
 use Rattle.stage_store.specs.declared.sieve.Sieve.{Sieve}
 use Rattle.stage_store.proofs.Pairs.{rows_two, pairs_is, pairs_count, pair_found}
 use Rattle.stage_store.proofs.Numbering.{numbered, stand_once}
-use Rattle.stage_store.proofs.Held.{less_is}
+use Rattle.stage_store.proofs.StageFields.{less_is}
 use Rattle.stage_store.specs.Opened.{IsOpen, open_number, AreOpened, IsNotNumbered, IsNumbered, AreStarts, IsClassOf, HasNoClass, IsPlacedIn, IsNumberOf, HasNoNumber, AreAscending, AscendWithin}
 use Rattle.stage_store.proofs.Classes.{IsPlaceFrom, sorted_at, each_at}
 use Rattle.stage_store.proofs.Pairs.{pair_at, ids_of-length}

@@ -24,7 +24,7 @@ use Rattle.row_pool.specs.Rows.{PoolValue}
 use Rattle.reduce_tree.specs.Tree.{TreeValue, AreNotBelow, places_of}
 use Rattle.stage_store.specs.Indexed.{HoldsRows}
 use Rattle.stage_store.proofs.Indexed.{find_result}
-use Rattle.stage_store.proofs.Held.{less_is}
+use Rattle.stage_store.proofs.StageFields.{less_is}
 
 -- ---- the row with a reach is below the sum
 within_sum : (x a : ℤ) → pos 0 ≤ℤ (x *ℤ a) → IsWithin x (x +ℤ a)

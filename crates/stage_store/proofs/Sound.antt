@@ -11,7 +11,7 @@ use Rattle.stage_store.specs.Sound.{IsSound}
 use Rattle.stage_store.specs.declared.stage.Lifted.{Lifted}
 use Rattle.stage_store.specs.declared.stage.Lifted.TheVariants.{Next, Last}
 use Rattle.stage_store.specs.declared.stage.LiftEnd.{LiftEnd}
-use Rattle.stage_store.proofs.Kept.{kept_solve, kept_positive}
+use Rattle.stage_store.proofs.FirstRows.{kept_solve, kept_positive}
 
 abbrev SolveTo : LinearSystem → ℕ → List (List ℤ) → Type 0
 SolveTo S k rows = AllByRecursion (Solves S k) rows

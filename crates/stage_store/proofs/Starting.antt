@@ -40,7 +40,7 @@ use Rattle.stage_store.specs.declared.stage.LiftEnd.{LiftEnd}
 use Rattle.stage_store.specs.declared.stage.LiftEnd.TheVariants.{Overflow}
 use Rattle.stage_store.proofs.UnitVectors.{units_stay}
 use Rattle.stage_store.proofs.Indexed.{holds_nothing}
-use Rattle.stage_store.proofs.Onward.{value_of}
+use Rattle.stage_store.proofs.ClosedNorm.{value_of}
 
 nothing_sorted : IsStrictlySortedBy norm_cmp []
 unfolding IsStrictlySortedBy

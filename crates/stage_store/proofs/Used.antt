@@ -10,7 +10,7 @@ use Rattle.lift_core.specs.Inside.Walks.{used_up_to}
 use Rattle.lift_core.proofs.Counts.{sum_by-same, sum_by-nothing, pairs_within-filter}
 use Rattle.stage_store.specs.Classes.{pairs_of}
 use Rattle.stage_store.specs.Stage.{StageValue, IsStage, used_of}
-use Rattle.stage_store.proofs.Held.{is_less}
+use Rattle.stage_store.proofs.StageFields.{is_less}
 
 -- whether f and g are a pair of norm at most e, and of norm e, as numbers
 abbrev within : List ℤ → List ℤ → ℕ → ℕ

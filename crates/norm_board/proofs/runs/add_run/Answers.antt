@@ -1,7 +1,7 @@
 use Rattle.std.proofs.Common.{◌≡◌, ◌∙◌, ◌++◌, ◌∷◌, [], List, ap, sym, refl}
 use Rattle.norm_board.specs.declared.runs.Run.{Run}
 use Rattle.norm_board.specs.Inside.NumberRuns.{numbers_of, count_up}
-use Rattle.norm_board.proofs.RunLemmas.{numbers-push, numbers_longer}
+use Rattle.norm_board.proofs.NumberRuns.{numbers-push, numbers_longer}
 use Rattle.norm_board.proofs.runs.add_run.Goals as goal
 
 pub returns-then-follows-clause-numbers : goal.returns-then-follows-clause-numbers

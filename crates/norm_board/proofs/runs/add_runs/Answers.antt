@@ -1,6 +1,6 @@
 use Rattle.std.proofs.Common.{arith}
 use Rattle.norm_board.specs.Inside.NumberRuns.{numbers_of}
-use Rattle.norm_board.proofs.RunLemmas.{numbers_added}
+use Rattle.norm_board.proofs.NumberRuns.{numbers_added}
 use Rattle.norm_board.proofs.runs.add_runs.Goals as goal
 
 pub loop-run-preserved : goal.loop-run-preserved

@@ -3,7 +3,7 @@ use Rattle.std.specs.Prelude.{List, ℤ, nat_abs}
 use Rattle.std.proofs.lemmas.List.{append-nil}
 use Rattle.int_vector.specs.Vectors.{dot}
 use Rattle.lift_core.specs.Systems.{row}
-use Rattle.stage_store.proofs.Kept.{fit_more, fit_not, extended_more}
+use Rattle.stage_store.proofs.FirstRows.{fit_more, fit_not, extended_more}
 use Rattle.stage_store.proofs.lifting.extended.Goals as goal
 
 pub returns-in-None : goal.returns-in-None

@@ -1,6 +1,6 @@
 use Rattle.std.proofs.Common.{◌≡◌, ◌∙◌, sym, ap, arith, ◌+◌, ◌-◌, length}
 use Rattle.row_pool.specs.Rows.{PoolValue}
-use Rattle.stage_store.proofs.Kept.{kept_more, kept_less}
+use Rattle.stage_store.proofs.FirstRows.{kept_more, kept_less}
 use Rattle.stage_store.proofs.lifting.kept_solutions.Goals as goal
 use Rattle.stage_store.proofs.lifting.kept_solutions.Goals.{then-is_zero_last, else-is_zero_last}
 

@@ -2,7 +2,7 @@ use Rattle.std.proofs.Common.{◌≡◌, ◌∙◌, arith, length, ◌<◌, ◌-
 use Rattle.stage_store.specs.Stage.{StageValue}
 use Rattle.stage_store.specs.Least.{IsLeastAbove}
 use Rattle.stage_store.specs.Answers.{HasWaitingNorm}
-use Rattle.stage_store.proofs.Held.{waits_answer, at_front}
+use Rattle.stage_store.proofs.StageFields.{waits_answer, at_front}
 use Rattle.stage_store.proofs.stage.Stage.first_waiting.Goals as goal
 
 pub returns : goal.returns

@@ -3,7 +3,7 @@ use Rattle.lift_core.specs.Stages.{has_positive_last, has_negative_last}
 use Rattle.stage_store.specs.Classes.{AreClasses}
 use Rattle.stage_store.specs.Stage.{IsStage, norm_of}
 use Rattle.stage_store.specs.Least.{IsLeastAbove, HasPairNorm}
-use Rattle.stage_store.proofs.Held.{classes_of, stage_of, norms_within, next_together, next_none, next_some}
+use Rattle.stage_store.proofs.StageFields.{classes_of, stage_of, norms_within, next_together, next_none, next_some}
 use Rattle.stage_store.proofs.stage.Stage.least_norm.Goals as goal
 
 pub pair_norm_above-pairs-requires-clause-plus : goal.pair_norm_above-pairs-requires-clause-plus

@@ -7,9 +7,9 @@ use Rattle.lift_core.specs.Systems.{Solves}
 use Rattle.lift_core.specs.Ends.{solution_cmp}
 use Rattle.stage_store.specs.Stage.{StageValue, IsStage}
 use Rattle.stage_store.specs.Lifted.{IsLift, StartsOr}
-use Rattle.stage_store.proofs.Held.{stage_of}
+use Rattle.stage_store.proofs.StageFields.{stage_of}
 use Rattle.stage_store.proofs.Used.{pairs_within-most}
-use Rattle.stage_store.proofs.Kept.{kept_solve, kept_positive, kept_small, kept_ascend, kept_count}
+use Rattle.stage_store.proofs.FirstRows.{kept_solve, kept_positive, kept_small, kept_ascend, kept_count}
 use Rattle.stage_store.proofs.Sound.{lift_is_sound}
 use Rattle.stage_store.proofs.Starting.{lift_result_defined}
 use Rattle.stage_store.proofs.stage.Stage.lift.Goals as goal

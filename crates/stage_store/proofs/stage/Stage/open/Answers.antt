@@ -4,8 +4,8 @@ use Rattle.stage_store.specs.Classes.{ClassValue, AreClasses}
 use Rattle.stage_store.specs.Stage.{IsStage, norm_of}
 use Rattle.stage_store.specs.Opened.{AreOpened, IsOpen}
 use Rattle.stage_store.proofs.Classes.{get_or-default}
-use Rattle.stage_store.proofs.Held.{classes_of, stage_of, parts_under}
-use Rattle.stage_store.proofs.Onward.{value_of}
+use Rattle.stage_store.proofs.StageFields.{classes_of, stage_of, parts_under}
+use Rattle.stage_store.proofs.ClosedNorm.{value_of}
 use Rattle.stage_store.proofs.Opening.{opened_is_open}
 use Rattle.stage_store.proofs.stage.Stage.open.Goals as goal
 

@@ -2,7 +2,7 @@ use Rattle.std.proofs.Common.{arith}
 use Rattle.lift_core.specs.Stages.{has_positive_last, has_negative_last}
 use Rattle.stage_store.specs.Classes.{AreClasses}
 use Rattle.stage_store.specs.Stage.{IsStage}
-use Rattle.stage_store.proofs.Held.{classes_of, stage_of, parts_under}
+use Rattle.stage_store.proofs.StageFields.{classes_of, stage_of, parts_under}
 use Rattle.stage_store.proofs.Pairs.{pairs_count, ids_of-length, pair_found}
 use Rattle.stage_store.proofs.Numbering.{pair_placed}
 use Rattle.stage_store.proofs.stage.Stage.pair.Goals as goal

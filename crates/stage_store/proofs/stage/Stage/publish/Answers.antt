@@ -5,9 +5,9 @@ use Rattle.lift_core.specs.Stages.{IsNextNorm}
 use Rattle.stage_store.specs.Classes.{ClassValue, with_class}
 use Rattle.stage_store.specs.Stage.{StageValue, IsStage, used_of}
 use Rattle.stage_store.specs.Published.{IsGrowth, IsPublished}
-use Rattle.stage_store.proofs.Held.{stage_of}
+use Rattle.stage_store.proofs.StageFields.{stage_of}
 use Rattle.stage_store.proofs.Used.{used_most, pairs_to_next, pairs_within-most}
-use Rattle.stage_store.proofs.Onward.{value_of, value_after, published_is, holds_after, defined_after, further_after}
+use Rattle.stage_store.proofs.ClosedNorm.{value_of, value_after, published_is, holds_after, defined_after, further_after}
 use Rattle.stage_store.proofs.stage.Stage.publish.Goals as goal
 
 pub overflow_add-self-2 : goal.overflow_add-self-2

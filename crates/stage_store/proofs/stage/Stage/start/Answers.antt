@@ -2,7 +2,7 @@ use Rattle.std.proofs.Common.{arith, refl, false, subst, sym, None}
 use Rattle.lift_core.specs.Systems.{ToolSystem}
 use Rattle.stage_store.specs.Fields.{Holds}
 use Rattle.stage_store.specs.Lifted.{AreExtended}
-use Rattle.stage_store.proofs.Onward.{value_of}
+use Rattle.stage_store.proofs.ClosedNorm.{value_of}
 use Rattle.stage_store.proofs.Starting.{start_holds}
 use Rattle.stage_store.proofs.stage.Stage.start.Goals as goal
 

@@ -1,6 +1,6 @@
 use Rattle.std.proofs.Common.{arith, ap}
 use Rattle.stage_store.specs.Stage.{IsStage, used_of}
-use Rattle.stage_store.proofs.Held.{stage_of}
+use Rattle.stage_store.proofs.StageFields.{stage_of}
 use Rattle.stage_store.proofs.Used.{used_to_next, used_most}
 use Rattle.stage_store.proofs.stage.Stage.used_at.Goals as goal
 

@@ -15,7 +15,7 @@ use Rattle.lift_core.proofs.Lists.{contains_cases, contains_head, contains_tail,
 use Rattle.lift_core.proofs.Orders.{norm_cmp_total, norm_same}
 use Rattle.stage_store.specs.Merge.{merged}
 use Rattle.stage_store.specs.Stage.{StageValue, IsStage}
-use Rattle.stage_store.proofs.Held.{not_more}
+use Rattle.stage_store.proofs.StageFields.{not_more}
 use Rattle.stage_store.proofs.Merge.{from_merged}
 use Rattle.stage_store.proofs.Publish.{grown, still, one_norm_order, merged_by_entries}
 use Rattle.stage_store.proofs.Closing.{sum_is_row}
