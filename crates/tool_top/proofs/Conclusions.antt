@@ -1,5 +1,5 @@
 -- What the ends of a command say: an answer that comes early, and the clauses of the top call.
-use Rattle.std.proofs.Common.{◌≡◌, ◌≢◌, ◌⊎◌, inl, inr, ℕ, List, [], ◌∷◌, Bool, true, false, Option, None, Some, Result, Ok, Err, IfSome, IsOkAnd, IsErrAnd, refl, ap, sym, subst, ◌∙◌}
+use Rattle.std.proofs.Common.{◌≡◌, ◌≢◌, ◌⊎◌, inl, inr, ℕ, List, [], Bool, true, false, Option, None, Some, Result, Ok, Err, IfSome, IsOkAnd, IsErrAnd, refl, ap, sym, subst, ◌∙◌}
 use Rattle.std.specs.Option.{option_map}
 use Rattle.outside.specs.Files.{Files}
 use Rattle.lift_core.specs.Systems.{ToolSystem}
@@ -23,7 +23,7 @@ use Rattle.tool_words.specs.declared.jobs.WordEnd.TheVariants.{Usage as NoForm, 
 use Rattle.backups.specs.declared.starts.Slot.{Slot}
 use Rattle.backups.specs.declared.starts.Slot.TheVariants.{First, Second}
 use Rattle.backups.specs.declared.starts.Start.{Start}
-use Rattle.backups.specs.declared.starts.Start.TheVariants.{Fresh, Resumed}
+use Rattle.backups.specs.declared.starts.Start.TheVariants.{Fresh}
 use Rattle.backups.specs.declared.starts.StartEnd.{StartEnd}
 use Rattle.backups.specs.declared.starts.StartEnd.TheVariants as start
 use Rattle.backups.specs.Starts.{Stored, stored_in, FindsStart}

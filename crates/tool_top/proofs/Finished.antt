@@ -1,6 +1,6 @@
 -- What the ends of a run say: it was stopped or broke off, the writing of its outputs was cut, or
 -- all is written.
-use Rattle.std.proofs.Common.{◌≡◌, ◌≢◌, ◌⊎◌, inl, inr, ℕ, List, [], ◌∷◌, Bool, true, false, Option, None, Some, Result, Ok, Err, IfSome, IsOkAnd, IsErrAnd, refl, ap, sym, subst, ◌∙◌}
+use Rattle.std.proofs.Common.{◌≡◌, inl, inr, ℕ, List, [], ◌∷◌, Option, None, Some, Result, Ok, Err, IfSome, IsErrAnd, refl, ap, sym, subst, ◌∙◌}
 use Rattle.std.specs.Prelude.{ℤ}
 use Rattle.std.specs.Option.{option_map}
 use Rattle.outside.specs.Files.{Files}
@@ -25,16 +25,16 @@ use Rattle.backups.specs.declared.starts.Start.{Start}
 use Rattle.backups.specs.Starts.{Stored, StartComesTo, first_slot}
 use Rattle.backups.specs.Standing.{Turns, turns_from, backed, LeavesFrom, LeavesRun}
 use Rattle.tool_top.specs.declared.ends.Part.{Part}
-use Rattle.tool_top.specs.declared.ends.Part.TheVariants.{Mat, Ckp0, Ckp1, Gra, Hil, Zhom, Zinhom, Out}
+use Rattle.tool_top.specs.declared.ends.Part.TheVariants.{Ckp0, Ckp1, Gra, Hil, Zhom, Zinhom, Out}
 use Rattle.tool_top.specs.declared.ends.End.{End}
-use Rattle.tool_top.specs.declared.ends.End.TheVariants.{Done, Usage, Outside, Memory}
+use Rattle.tool_top.specs.declared.ends.End.TheVariants.{Usage, Outside, Memory}
 use Rattle.tool_top.specs.declared.ends.Totals.{Totals}
 use Rattle.tool_top.specs.Names.{file_name}
 use Rattle.tool_top.specs.Plan.{Plan, project_of, interval_for, part_of_slot}
-use Rattle.tool_top.specs.Outputs.{OutputFile, AreOutputs, file_of, to_write, written_all, rows_in, norms_in}
-use Rattle.tool_top.specs.Expected.{limits_of, StartsAs, RunComesTo, Finishes}
+use Rattle.tool_top.specs.Outputs.{OutputFile, file_of, to_write, written_all, rows_in, norms_in}
+use Rattle.tool_top.specs.Expected.{limits_of, StartsAs, Finishes}
 use Rattle.tool_top.specs.Summary.{Tells}
-use Rattle.tool_top.specs.Left.{Traces, BacksUp, IsStopped, IsBrokenOff, IsCutAt, IsCutInFile, LeavesCut, turns_for}
+use Rattle.tool_top.specs.Left.{Traces, BacksUp, IsCutAt, IsCutInFile, LeavesCut, turns_for}
 use Rattle.tool_top.specs.Inside.Ends.{end_of_run, end_of_stopped, end_of, Ends}
 use Rattle.tool_top.specs.Inside.Writing.{AreSelectedOf, CutsTo, TellsOf}
 use Rattle.tool_top.proofs.Conclusions.{traces, EndsOver, at_error}

@@ -1,5 +1,5 @@
 -- The first file with its cause, and then the second.
-use Rattle.std.proofs.Common.{◌∷◌, [], codes}
+use Rattle.std.proofs.Common.{◌∷◌, codes}
 use Rattle.std.proofs.lemmas.Result.{err_from_is_err_and, on_ok_weaker, on_err_weaker}
 use Rattle.tool_top.specs.declared.ends.Part.TheVariants.{Ckp0, Ckp1}
 use Rattle.tool_top.specs.Messages.{about, cause_of}

@@ -1,5 +1,5 @@
 -- Each way out of the steps behind the words is an end of the plan.
-use Rattle.std.proofs.Common.{Err, refl, ap, ◌∙◌, arith}
+use Rattle.std.proofs.Common.{Err, ap, ◌∙◌, arith}
 use Rattle.std.specs.Prelude.{Some}
 use Rattle.outside.specs.Causes.{Rose}
 use Rattle.tool_top.specs.Inside.Ends.{end_of}

@@ -2,7 +2,6 @@
 use Rattle.std.proofs.Common.{refl}
 use Rattle.lift_core.specs.Ends.{finished}
 use Rattle.tool_top.specs.Plan.{project_of}
-use Rattle.tool_top.specs.Expected.{Finishes}
 use Rattle.tool_top.specs.Inside.Writing.{outputs_of}
 use Rattle.std.specs.Prelude.{Some}
 use Rattle.outside.specs.Causes.{Rose}
