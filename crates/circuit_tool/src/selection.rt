@@ -10,8 +10,8 @@ ghost use Rattle.circuit_tool.specs.Circuits.{AreLeastRows};
 ghost use Rattle.circuit_tool.specs.Inside.Supports.{is_kept};
 
 use crate::supports::{has_strictly_within, least_supports, support};
-use mat_files::Grid;
 use lift_core::put_in_order;
+use mat_files::Grid;
 use solution_files::lay_out;
 use std::alloc::{AllocError, Global};
 use system_files::{row, row_count};

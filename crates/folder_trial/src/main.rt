@@ -61,7 +61,11 @@ fn read_alike<A: Folder, B: Folder>(
 }
 
 // Makes one call on both, and says whether they answer alike.
-fn call<A: Folder, B: Folder>(real: &mut A, memory: &mut B, draw: &mut Draw) -> Result<bool, PutEnd> {
+fn call<A: Folder, B: Folder>(
+    real: &mut A,
+    memory: &mut B,
+    draw: &mut Draw,
+) -> Result<bool, PutEnd> {
     let name = draw.name();
     match draw.below(8) {
         0 => Ok(real.size(name)? == memory.size(name)?),
@@ -84,7 +88,11 @@ fn call<A: Folder, B: Folder>(real: &mut A, memory: &mut B, draw: &mut Draw) -> 
 }
 
 // Whether both hold the same bytes under a name.
-fn holds_alike<A: Folder, B: Folder>(real: &mut A, memory: &mut B, name: &str) -> Result<bool, PutEnd> {
+fn holds_alike<A: Folder, B: Folder>(
+    real: &mut A,
+    memory: &mut B,
+    name: &str,
+) -> Result<bool, PutEnd> {
     let size = real.size(name)?;
     if size != memory.size(name)? {
         return Ok(false);
@@ -108,7 +116,11 @@ fn hold_alike<A: Folder, B: Folder>(real: &mut A, memory: &mut B) -> Result<bool
 }
 
 // Makes one sequence of calls on both, and says whether they answer and then hold alike.
-fn sequence<A: Folder, B: Folder>(real: &mut A, memory: &mut B, draw: &mut Draw) -> Result<bool, PutEnd> {
+fn sequence<A: Folder, B: Folder>(
+    real: &mut A,
+    memory: &mut B,
+    draw: &mut Draw,
+) -> Result<bool, PutEnd> {
     for _ in 0..CALLS {
         if !call(real, memory, draw)? || !hold_alike(real, memory)? {
             return Ok(false);

@@ -37,11 +37,11 @@ fn append_rows<F: Folder>(
 ) -> Result<(), PutEnd>
     ensures done { (text : List ℕ) (before : Option Files)
         → IsPartWritten name.now text (lines_of grid.now.rows grid.now.cols grid.now.cells)
-            before (F.held folder.old)
+        before (F.held folder.old)
         → OnOk result (F.held folder.new ≡ option_map (written name.now text) before) }
     ensures refused { (text : List ℕ) (before : Option Files)
         → IsPartWritten name.now text (lines_of grid.now.rows grid.now.cols grid.now.cells)
-            before (F.held folder.old)
+        before (F.held folder.old)
         → OnErr result (MayWrite name.now text before (F.held folder.new)) }
     ensures cause { HasCause (F.faults folder.old) (F.faults folder.new) result }
 {

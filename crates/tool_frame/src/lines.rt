@@ -33,9 +33,9 @@ fn put_texts<'a, S: Sink>(
 ) -> Result<(), PutEnd>
     ensures done { OnOk result (S.held sink.new
         ≡ append_known (S.held sink.old) (line_of program.now
-            (before.now ∷ first.now ∷ between.now ∷ second.now ∷ after.now ∷ []))) }
+        (before.now ∷ first.now ∷ between.now ∷ second.now ∷ after.now ∷ []))) }
     ensures refused { OnErr result (MayPut (line_of program.now
-            (before.now ∷ first.now ∷ between.now ∷ second.now ∷ after.now ∷ []))
+        (before.now ∷ first.now ∷ between.now ∷ second.now ∷ after.now ∷ []))
         (S.held sink.old) (S.held sink.new)) }
     ensures cause { HasCause (S.faults sink.old) (S.faults sink.new) result }
 {
@@ -68,9 +68,9 @@ fn put_file_texts<'a, S: Sink>(
 ) -> Result<(), PutEnd>
     ensures done { OnOk result (S.held sink.new
         ≡ append_known (S.held sink.old) (file_line program.now project.now ending.now
-            (before.now ∷ first.now ∷ between.now ∷ second.now ∷ after.now ∷ []))) }
+        (before.now ∷ first.now ∷ between.now ∷ second.now ∷ after.now ∷ []))) }
     ensures refused { OnErr result (MayPut (file_line program.now project.now ending.now
-            (before.now ∷ first.now ∷ between.now ∷ second.now ∷ after.now ∷ []))
+        (before.now ∷ first.now ∷ between.now ∷ second.now ∷ after.now ∷ []))
         (S.held sink.old) (S.held sink.new)) }
     ensures cause { HasCause (S.faults sink.old) (S.faults sink.new) result }
 {
@@ -150,9 +150,9 @@ pub fn put_message<S: Sink>(
 ) -> Result<(), PutEnd>
     ensures done { OnOk result (S.held sink.new
         ≡ append_known (S.held sink.old) (message_in program.now project.now
-            (option_map (λ e. e.now) file.entry) (words_in wording.now))) }
+        (option_map (λ e. e.now) file.entry) (words_in wording.now))) }
     ensures refused { OnErr result (MayPut (message_in program.now project.now
-            (option_map (λ e. e.now) file.entry) (words_in wording.now))
+        (option_map (λ e. e.now) file.entry) (words_in wording.now))
         (S.held sink.old) (S.held sink.new)) }
     ensures cause { HasCause (S.faults sink.old) (S.faults sink.new) result }
 {
