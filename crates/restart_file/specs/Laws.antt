@@ -8,4 +8,9 @@ use Rattle.restart_file.specs.Reading.{IsReading}
 
 -- a file says one thing of a system, or has one first fault
 abbrev pub OneReading : Type 0
-OneReading = (S : ToolSystem) (file : Option (List ℕ)) (a b : Result Progress RestartFault) → IsToolSystem S → IsReading S file a → IsReading S file b → a ≡ b
+OneReading =
+    (S : ToolSystem) (file : Option (List ℕ)) (a b : Result Progress RestartFault)
+    → IsToolSystem S
+    → IsReading S file a
+    → IsReading S file b
+    → a ≡ b

@@ -35,7 +35,8 @@ fn counts_in(
 ) -> Result<bool, AllocError>
     requires { length counts.old ≤ 3 }
     ensures sound { IfOk result (λ is. IsTrue is → line.now ≡ counts_line word.now counts.new) }
-    ensures complete { (ns : List ℕ) → length ns ≡ length counts.old → AllByRecursion (λ n. n ≤ largest) ns → line.now ≡ counts_line word.now ns → IfOk result (λ is. IsTrue is × (counts.new ≡ ns)) }
+    ensures complete { (ns : List ℕ) → length ns ≡ length counts.old → AllByRecursion (λ n. n ≤ largest) ns
+        → line.now ≡ counts_line word.now ns → IfOk result (λ is. IsTrue is × (counts.new ≡ ns)) }
     ensures same { length counts.new ≡ length counts.old }
     ensures small { IfOk result (λ is. IsTrue is → AllByRecursion (λ n. n ≤ largest) counts.new) }
 {
@@ -87,7 +88,8 @@ pub(crate) fn place_in(
     system: &System,
     text: &mut Vec<u8>,
 ) -> Result<Option<(u32, u64)>, AllocError>
-    ensures { IfOk result (λ o. MatchOption o ((k d : ℕ) → IsPlace system.now k d → line.now ≢ is_place_line k d) (λ p. IsPlace system.now p.0 p.1 × (line.now ≡ is_place_line p.0 p.1))) }
+    ensures { IfOk result (λ o. MatchOption o ((k d : ℕ) → IsPlace system.now k d → line.now ≢ is_place_line k d)
+        (λ p. IsPlace system.now p.0 p.1 × (line.now ≡ is_place_line p.0 p.1))) }
 {
     system.keeps();
     let mut counts = [0u64; 2];
@@ -116,7 +118,8 @@ pub(crate) fn classes_in(
     text: &mut Vec<u8>,
 ) -> Result<Option<[u64; 3]>, AllocError>
     requires { most ≤ largest }
-    ensures { IfOk result (λ o. MatchOption o ((ns : List ℕ) → AreCounts (codes "classes ") most line.now ns → ⊥) (λ ns. AreCounts (codes "classes ") most line.now ns)) }
+    ensures { IfOk result (λ o. MatchOption o ((ns : List ℕ) → AreCounts (codes "classes ") most line.now ns → ⊥)
+        (λ ns. AreCounts (codes "classes ") most line.now ns)) }
 {
     let mut counts = [0u64; 3];
     if !counts_in(line, b"classes ", &mut counts, text)? {

@@ -94,7 +94,8 @@ pub(crate) fn cells_in(
     text: &mut Vec<u8>,
 ) -> Result<bool, AllocError>
     ensures sound { IfOk result (λ is. IsTrue is → line.now ≡ word.now ++ line_of cells.new) }
-    ensures complete { (zs : List ℤ) → length zs ≡ length cells.old → AllByRecursion InRange zs → line.now ≡ word.now ++ line_of zs → IfOk result (λ is. IsTrue is × (cells.new ≡ zs)) }
+    ensures complete { (zs : List ℤ) → length zs ≡ length cells.old → AllByRecursion InRange zs
+        → line.now ≡ word.now ++ line_of zs → IfOk result (λ is. IsTrue is × (cells.new ≡ zs)) }
     ensures range { All InRange cells.new }
 {
     guess(behind(line, word.len()), cells);
