@@ -10,6 +10,8 @@ mod outputs;
 #[cfg(test)]
 mod pools;
 #[cfg(test)]
+mod rebuilds;
+#[cfg(test)]
 mod restarts;
 #[cfg(test)]
 mod runs;

@@ -21,6 +21,10 @@ pub mod Starting
 pub mod Ordered
 pub mod NumberedSums
 pub mod Sorting
+pub mod CountedPairs
+pub mod ClassesByNorm
+pub mod Rebuilt
+pub mod Sound
 pub mod Sifting
 pub mod Tables
 pub mod Opening

@@ -35,7 +35,7 @@ use Rattle.stage_store.proofs.Used.{used_to_next, pairs_to_next, pairs_after}
 use Rattle.stage_store.proofs.Numbering.{numbered}
 
 -- the classes are of norms below e
-class_below : (listed : List (List ℤ)) (test : List ℤ → Bool) (cs : List ClassValue) (d e : ℕ) → d < e → AreClasses listed test cs → AllByRecursion (λ z. stage_norm z ≤ d) listed → (b : ClassValue) → Contains cs b → b.norm < e
+pub class_below : (listed : List (List ℤ)) (test : List ℤ → Bool) (cs : List ClassValue) (d e : ℕ) → d < e → AreClasses listed test cs → AllByRecursion (λ z. stage_norm z ≤ d) listed → (b : ClassValue) → Contains cs b → b.norm < e
 class_below listed test cs d e l h norms b c =
     let is : (get_or cs c.0 (record { norm = 0; ids = [] })).norm ≡ b.norm = ap (λ (x : ClassValue). x.norm) (get_or-default cs c.0 (record { norm = 0; ids = [] }) b c.1 ∙ c.2) in
     omega (arith, l, is, norms_within listed test cs d h norms c.0 c.1)

@@ -19,6 +19,9 @@ pub mod Published
 pub mod Found
 pub mod Numbered
 pub mod Sorting
+pub mod CountedPairs
+pub mod Rebuilt
+pub mod Sound
 pub mod Reaches
 pub mod Lines
 pub mod Levels

@@ -2,6 +2,7 @@
 #![tactic(auto)]
 
 mod class;
+mod counting;
 mod growing;
 pub mod laws;
 mod lifting;
@@ -11,9 +12,11 @@ mod numbered;
 mod opened;
 mod order;
 mod reach;
+mod rebuilding;
 mod sieve;
 mod stage;
 
+pub use counting::pairs_within;
 pub use numbered::Hints;
 pub use order::{in_order, put_in_order};
 pub use stage::{Closed, Finish, LiftEnd, Lifted, Next, PublishEnd, Stage};

@@ -7,7 +7,7 @@ ghost use Rattle.int_vector.specs.Vectors.{◌⊑◌, norm};
 ghost use Rattle.int_vector.specs.Operations.{add};
 ghost use Rattle.lift_core.specs.Lists.{IsListOf};
 ghost use Rattle.lift_core.specs.Inside.PairSums.{IsIrreducible, HasSum};
-ghost use Rattle.lift_core.specs.Stages.{IsPair, IsNextNorm, HasNoNextNorm, stage_norm, last};
+ghost use Rattle.lift_core.specs.Stages.{IsPair, IsNextNorm, HasNoNextNorm, stage_norm, last, pairs_within};
 ghost use Rattle.lift_core.specs.ToolSystems.{width};
 ghost use Rattle.lift_core.specs.Systems.{Solves};
 ghost use Rattle.lift_core.specs.Inside.Walks.{used_up_to};
@@ -19,14 +19,18 @@ ghost use Rattle.stage_store.specs.Numbered.{GainsNumbered};
 ghost use Rattle.stage_store.specs.Least.{IsLeastAbove};
 ghost use Rattle.stage_store.specs.Answers.{IsNext, HasWaitingNorm};
 ghost use Rattle.stage_store.specs.Lifted.{StartsOr, IsFirst, IsLift, IsLiftedDefined};
+ghost use Rattle.stage_store.specs.Rebuilt.{stage_of};
+ghost use Rattle.stage_store.specs.Sound.{IsSound};
 ghost use Rattle.stage_store.specs.Published.{IsClosedNorm, IsPublish, IsFurther, GrowsOr};
 
 use crate::class::{Class, count_pairs, find_pair, lesser, pair_norm_above};
+use crate::counting::pairs_within;
 use crate::growing::{add_class, class_of, list_rows, make_room, merged_rows, waits_up_to};
 use crate::lifting::{extended, kept_solutions, units};
 use crate::numbered::{Hints, gather_all, take_opened, take_range};
 use crate::opened::{Opened, open_norm};
 use crate::order::in_order;
+use crate::rebuilding::{classes_of, tree_of};
 use crate::sieve::Sieve;
 use int_vector::{Visits, add_into, conformal, norm};
 use lift_core::{IntRow, System};
@@ -241,11 +245,65 @@ impl Stage {
         Ok(Lifted::Next(stage))
     }
 
+    /// The stage of a system with this number, norm, used pairs and lists. That they are the defined
+    /// ones is not asked.
+    pub fn rebuild(
+        alloc: Global,
+        system: System,
+        number: u32,
+        norm: u64,
+        used: u64,
+        listed: Pool,
+        waiting: Pool,
+    ) -> Result<Stage, AllocError>
+        requires kept { IsStage (stage_of system number norm used listed.rows waiting.rows) }
+        requires listed_width { listed.width ≡ width system.equations + 1 }
+        requires waiting_width { waiting.width ≡ width system.equations + 1 }
+        requires most { used ≤ 2 ^ 62 }
+        requires enough { pairs_within listed.rows norm ≤ used }
+        ensures stage { IfOk result (λ s. s ≡ stage_of system number norm used listed.rows waiting.rows) }
+        ensures used { IfOk result (λ s. used_of s ≡ used) }
+    {
+        let before = used - pairs_within(&listed, norm);
+        let mut stage = Stage {
+            alloc,
+            system,
+            number,
+            norm,
+            before,
+            used,
+            tree: tree_of(alloc, &listed)?,
+            plus: classes_of(alloc, &listed, true)?,
+            minus: classes_of(alloc, &listed, false)?,
+            listed,
+            waiting,
+            waited: 0,
+            sieve: Sieve::new(alloc)?,
+            following: Following {
+                known: false,
+                next: None,
+            },
+            counted: Counted {
+                known: false,
+                norm: 0,
+                pairs: 0,
+            },
+            ahead: Opened {
+                known: false,
+                norm: 0,
+                pairs: Vec::new(alloc),
+            },
+        };
+        stage.prepare()?;
+        Ok(stage)
+    }
+
     /// What begins with the solutions of this stage, which is finished: its rows with last entry 0, without it.
     pub fn lift(self) -> Result<Lifted, LiftEnd>
         requires done { HasNoNextNorm self.listed self.waiting self.norm }
         ensures lifted { IsLift self result }
         ensures defined { IsDefined self → IfOk result IsLiftedDefined }
+        ensures sound { IfOk result IsSound }
     {
         let solutions = kept_solutions(self.alloc, &self.listed)?;
         Stage::start(
@@ -344,6 +402,14 @@ impl Stage {
             return self.counted.pairs;
         }
         self.count_at(norm)
+    }
+
+    /// About how many pairs of a norm `gather` looks at: fewer than it has, once the norm is open. No clause rests on it.
+    pub fn pairs_left(&self, norm: u64) -> u64 {
+        if self.ahead.known && self.ahead.norm == norm {
+            return self.ahead.pairs.len() as u64;
+        }
+        self.pairs_at(norm)
     }
 
     /// The same, counted by the classes.

@@ -10,6 +10,7 @@ use Rattle.stage_store.specs.Lifted.{IsLift, StartsOr}
 use Rattle.stage_store.proofs.Held.{stage_of}
 use Rattle.stage_store.proofs.Used.{pairs_within-most}
 use Rattle.stage_store.proofs.Kept.{kept_solve, kept_positive, kept_small, kept_ascend, kept_count}
+use Rattle.stage_store.proofs.Sound.{lift_is_sound}
 use Rattle.stage_store.proofs.Starting.{lift_result_defined}
 use Rattle.stage_store.proofs.stage.Stage.lift.Goals as goal
 
@@ -42,3 +43,6 @@ pub returns-clause-defined : goal.returns-clause-defined
 returns-clause-defined c = λ h.
     let s : IsStage c.args.self = stage_of c.self.view_is c.self.invariant.stage in
     lift_result_defined c.args.self c.start.result s.number_from s.number_to c.requires.done (returns-clause-lifted c) h
+
+pub returns-clause-sound : goal.returns-clause-sound
+returns-clause-sound c = lift_is_sound c.args.self c.start.result (stage_of c.self.view_is c.self.invariant.stage) (returns-clause-lifted c)
