@@ -9,20 +9,20 @@ use std::alloc::{AllocError, Global};
 use std::thread::Threads;
 use worker_gate::{Gate, run_norm};
 
-/// A third pass and each further one pays for its thread from so many blocks more: to start one costs about as much as to
-/// work them out.
-const BLOCKS_A_PASS: u64 = 8;
+/// A third pass and each further one pays for its thread from so many pairs more that are looked at: to start one costs
+/// about as much.
+const PAIRS_A_PASS: u64 = 256;
 
-// How many passes work out a norm of so many pairs: as many as there are workers, but no more than blocks, and no more than
-// the blocks pay for.
-fn passes_for(pairs: u64, workers: u32) -> u32
+// How many passes work out a norm of so many pairs, of which so many are left to look at: as many as there are workers, but
+// no more than blocks, and no more than the pairs pay for.
+fn passes_for(pairs: u64, left: u64, workers: u32) -> u32
     requires pairs { pairs ≤ 2 ^ 42 }
     requires some { 1 ≤ workers }
     ensures some { 1 ≤ result }
     ensures most { result ≤ workers }
 {
     let blocks = blocks_of(pairs);
-    match u32::try_from(blocks.min(2 + blocks / BLOCKS_A_PASS)) {
+    match u32::try_from(blocks.min(2 + left / PAIRS_A_PASS)) {
         Ok(passes) => workers.min(passes.max(1)),
         Err(_) => workers,
     }
@@ -42,7 +42,7 @@ pub(crate) fn norm_sums<R: Threads + Sync, G: Gate + Sync>(
     requires most { workers ≤ 32 }
     ensures { IfOk result (IsClosedNorm stage.now norm) }
 {
-    let passes = passes_for(stage.pairs_at(norm), workers);
+    let passes = passes_for(stage.pairs_at(norm), stage.pairs_left(norm), workers);
     let (board, pass) = Board::start(alloc, stage, norm, passes)?;
     let (board, pass, left) = run_norm(rt, alloc, stage, norm, board, pass, gate)?;
     let Ok(closed) = board.close(alloc, pass, left) else {
