@@ -9,8 +9,8 @@ use Rattle.int_vector.specs.Operations.{add}
 use Rattle.lift_core.specs.Systems.{LinearSystem, row, Solves}
 use Rattle.lift_core.specs.Stages.{extend, front, last, stage_norm, IsStageVector, IsNextNorm}
 use Rattle.lift_core.specs.Ends.{Limits, End, norm_overflow, row_overflow, pairs_spent, rows_spent, finished}
-use Rattle.lift_core.specs.Inside.PairSums.{IsNewSum}
-use Rattle.lift_core.specs.Inside.Walks.{WalkEnds, walk_norm_overflow, walk_pairs_spent, walk_rows_spent, walk_closing, walk_row_overflow, walk_next_stage, walk_finish, IsGrown, solutions_in, still_waiting}
+use Rattle.lift_core.specs.PairSums.{IsNewSum}
+use Rattle.lift_core.specs.Walks.{WalkEnds, walk_norm_overflow, walk_pairs_spent, walk_rows_spent, walk_closing, walk_row_overflow, walk_next_stage, walk_finish, IsGrown, solutions_in, still_waiting}
 use Rattle.lift_core.proofs.Lists.{each_from_contained, each_contained}
 use Rattle.lift_core.proofs.Orders.{from_filter, from_map}
 use Rattle.lift_core.proofs.Stages.{front-push, last-push}

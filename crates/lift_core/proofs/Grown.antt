@@ -11,8 +11,8 @@ use Rattle.int_vector.specs.Vectors.{◌⊑◌, IsWithin}
 use Rattle.int_vector.specs.Operations.{add}
 use Rattle.lift_core.specs.Systems.{LinearSystem}
 use Rattle.lift_core.specs.Stages.{front, last, stage_norm, norm_cmp, IsWaitingAt}
-use Rattle.lift_core.specs.Inside.PairSums.{HasSum, IsIrreducible, IsNewSum}
-use Rattle.lift_core.specs.Inside.Walks.{IsGrown}
+use Rattle.lift_core.specs.PairSums.{HasSum, IsIrreducible, IsNewSum}
+use Rattle.lift_core.specs.Walks.{IsGrown}
 use Rattle.int_vector.proofs.Numbers.{within_parts, within_from_parts}
 use Rattle.lift_core.proofs.Systems.{Test, test_zip, test_each, test_at_most, test_caps}
 use Rattle.lift_core.proofs.Lists.{each_contained, each_from_contained}

@@ -12,7 +12,7 @@ use Rattle.int_vector.specs.Vectors.{norm, dot, ◌⊑◌, IsZero}
 use Rattle.int_vector.specs.Operations.{add, AreConformal}
 use Rattle.lift_core.specs.Systems.{LinearSystem, row, Solves, ObeysCaps, IsMinimalSolution}
 use Rattle.lift_core.specs.Stages.{extend, front, stage_norm, IsStageVector, IsStageMinimal, IsListed, IsWaiting, IsStageList, IsWaitingAt, Occurs, IsNextNorm, HasNoNextNorm}
-use Rattle.lift_core.specs.Inside.PairSums.{HasSum, IsNewSum}
+use Rattle.lift_core.specs.PairSums.{HasSum, IsNewSum}
 use Rattle.int_vector.proofs.Vectors.{below_trans, below_norm, below_same, norm_positive, nonzero_from_norm, sum_norm, length-conformal}
 use Rattle.lift_core.proofs.Minimal.{minimal_below}
 use Rattle.lift_core.proofs.Systems.{solves_closed, solves_sum}

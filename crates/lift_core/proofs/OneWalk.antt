@@ -6,7 +6,7 @@ use Rattle.std.specs.Prelude.{ℤ, map}
 use Rattle.std.specs.List.{find}
 use Rattle.lift_core.specs.Systems.{LinearSystem, row}
 use Rattle.lift_core.specs.Stages.{IsNextNorm, HasNoNextNorm, extend}
-use Rattle.lift_core.specs.Inside.Walks.{WalkEnds, walk_norm_overflow, walk_pairs_spent, walk_rows_spent, walk_closing, walk_row_overflow, walk_next_stage, walk_finish, IsGrown, used_up_to, still_waiting, solutions_in}
+use Rattle.lift_core.specs.Walks.{WalkEnds, walk_norm_overflow, walk_pairs_spent, walk_rows_spent, walk_closing, walk_row_overflow, walk_next_stage, walk_finish, IsGrown, used_up_to, still_waiting, solutions_in}
 use Rattle.lift_core.specs.Ends.{End, norm_overflow, row_overflow, pairs_spent, rows_spent, finished, Limits, leaves_range}
 use Rattle.int_vector.specs.Vectors.{largest}
 use Rattle.lift_core.proofs.Unique.{next_same, one_grown, not_found, some_same}

@@ -18,7 +18,7 @@ use Rattle.lift_core.specs.Systems.{LinearSystem, row, Solves, IsMinimalSolution
 use Rattle.lift_core.specs.Stages.{extend, front, last, stage_norm, norm_cmp, IsStageVector, IsStageMinimal, IsListed, IsWaiting, IsStageList, IsNextNorm, HasNoNextNorm, pairs_within, all_pairs, ArePairsBefore, AreUsed}
 use Rattle.lift_core.specs.Lists.{IsListOf}
 use Rattle.lift_core.specs.Ends.{solution_cmp, IsSolutionList}
-use Rattle.lift_core.specs.Inside.Walks.{solutions_in, still_waiting, IsGrown, used_up_to}
+use Rattle.lift_core.specs.Walks.{solutions_in, still_waiting, IsGrown, used_up_to}
 use Rattle.int_vector.proofs.Vectors.{norm_positive}
 use Rattle.lift_core.proofs.Systems.{solution_length}
 use Rattle.lift_core.proofs.Stages.{front-push}

@@ -8,7 +8,7 @@ use native.Mathlib.Decide.{ℕ_discrete, dec_le}
 use Rattle.lift_core.specs.Systems.{LinearSystem}
 use Rattle.lift_core.specs.Lists.{IsListOf}
 use Rattle.lift_core.specs.Stages.{norm_cmp, stage_norm, IsPair}
-use Rattle.lift_core.specs.Inside.PairSums.{IsNewSum}
+use Rattle.lift_core.specs.PairSums.{IsNewSum}
 use Rattle.lift_core.specs.Times.{times, total_of, once_below}
 use Rattle.lift_core.specs.PureMachine.{CoreState, core_start, held_at, IsAllowed, after, Runs, no_event, one_event, Steps, IsRefused, StopsAt, AreNumbered, IsSumInBlock, IsSumsOf}
 use Rattle.lift_core.specs.declared.machine.Event.{Event}

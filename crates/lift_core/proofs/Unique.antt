@@ -7,8 +7,8 @@ use Rattle.std.specs.Prelude.{ℤ}
 use Rattle.std.specs.List.{Contains}
 use Rattle.lift_core.specs.Systems.{LinearSystem, IsMinimalSolution}
 use Rattle.lift_core.specs.Stages.{stage_norm, norm_cmp, front, IsStageVector, IsStageMinimal, IsListed, IsWaiting, IsStageList, IsNextNorm, HasNoNextNorm, IsWaitingAt, pairs_within, all_pairs, ArePairsBefore, AreUsed}
-use Rattle.lift_core.specs.Inside.PairSums.{IsNewSum}
-use Rattle.lift_core.specs.Inside.Walks.{IsGrown}
+use Rattle.lift_core.specs.PairSums.{IsNewSum}
+use Rattle.lift_core.specs.Walks.{IsGrown}
 use Rattle.lift_core.specs.Ends.{ListsAt, IsSolutionList, solution_cmp}
 use Rattle.lift_core.proofs.Lists.{one_list}
 use Rattle.lift_core.proofs.Orders.{norm_cmp_total, solution_cmp_total}

@@ -7,7 +7,7 @@ use Rattle.std.specs.Prelude.{map, ℤ}
 use Rattle.lift_core.specs.Systems.{LinearSystem, row}
 use Rattle.lift_core.specs.Stages.{extend, last, IsListed, IsWaiting, IsStageList, all_pairs, ArePairsBefore, AreUsed}
 use Rattle.lift_core.specs.Ends.{End, RunEnds, from_stage_one, Limits, ListsAt, EndsIn, by_norm_overflow, by_pairs_spent, by_rows_spent, by_closing, by_row_overflow, by_next_stage, by_finish, IsSolutionList}
-use Rattle.lift_core.specs.Inside.Walks.{WalkEnds, walk_norm_overflow, walk_pairs_spent, walk_rows_spent, walk_closing, walk_row_overflow, walk_next_stage, walk_finish, solutions_in, IsGrown, used_up_to}
+use Rattle.lift_core.specs.Walks.{WalkEnds, walk_norm_overflow, walk_pairs_spent, walk_rows_spent, walk_closing, walk_row_overflow, walk_next_stage, walk_finish, solutions_in, IsGrown, used_up_to}
 use Rattle.lift_core.proofs.Growth.{complete}
 use Rattle.lift_core.proofs.Places.{grown_listed, still_waits, used_next, all_used, solutions_are, nothing_listed, solutions_wait}
 use Rattle.lift_core.proofs.Grown.{grown_exists}

@@ -2,7 +2,5 @@
 pub mod Capped
 pub mod Units
 pub mod Decompositions
-pub mod PairSums
-pub mod Walks
 pub mod Written
 pub mod OrderedRows

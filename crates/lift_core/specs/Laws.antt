@@ -5,13 +5,13 @@ use Rattle.std.specs.Ordering.{int_eq}
 use Rattle.int_vector.specs.Vectors.{◌⊑◌, IsZero, negated, leads_negative}
 use Rattle.lift_core.specs.Systems.{LinearSystem, row, Solves, IsMinimalSolution}
 use Rattle.lift_core.specs.Stages.{extend, last, stage_norm, IsStageVector, IsStageMinimal, IsListed, IsWaiting, IsStageList, IsPair, IsWaitingAt, IsNextNorm, HasNoNextNorm, AreUsed}
-use Rattle.lift_core.specs.Inside.PairSums.{IsNewSum}
+use Rattle.lift_core.specs.PairSums.{IsNewSum}
 use Rattle.lift_core.specs.Inside.Decompositions.{IsDecomposition, IsConformalSum, last_total}
 use Rattle.lift_core.specs.Inside.Units.{IsSignedUnit}
 use Rattle.lift_core.specs.Columns.{Kind}
 use Rattle.lift_core.specs.Inside.Written.{IsWanted, IsWantedGraver}
 use Rattle.lift_core.specs.Ends.{Limits, End, finished, EndsIn, RunEnds, IsSolutionList}
-use Rattle.lift_core.specs.Inside.Walks.{WalkEnds, solutions_in, still_waiting, IsGrown, used_up_to}
+use Rattle.lift_core.specs.Walks.{WalkEnds, solutions_in, still_waiting, IsGrown, used_up_to}
 
 -- ---- single vectors and sums
 -- the minimal solutions of no rows are the signed unit vectors that the signs and caps allow

@@ -4,6 +4,9 @@ pub mod Systems
 pub mod ToolSystems
 pub mod Stages
 pub mod Ends
+pub mod PairSums
+pub mod Walks
+pub mod Kinds
 pub mod Times
 pub mod PureMachine
 pub mod MachineLaws

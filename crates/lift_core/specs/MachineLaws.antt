@@ -3,7 +3,7 @@ use Rattle.std.specs.Prelude.{◌≡◌, ℕ, ◌+◌, ◌*◌, ◌≤◌, List,
 use Rattle.lift_core.specs.Systems.{LinearSystem}
 use Rattle.lift_core.specs.Lists.{IsListOf}
 use Rattle.lift_core.specs.Stages.{norm_cmp}
-use Rattle.lift_core.specs.Inside.PairSums.{IsNewSum}
+use Rattle.lift_core.specs.PairSums.{IsNewSum}
 use Rattle.lift_core.specs.Times.{times, total_of, once_below}
 use Rattle.lift_core.specs.PureMachine.{CoreState, core_start, Runs, AreNumbered, IsSumsOf}
 use Rattle.lift_core.specs.declared.machine.Event.{Event}

@@ -5,7 +5,7 @@ use Rattle.int_vector.specs.Operations.{add}
 use Rattle.lift_core.specs.Systems.{LinearSystem}
 use Rattle.lift_core.specs.Lists.{IsListOf}
 use Rattle.lift_core.specs.Stages.{norm_cmp, stage_norm, IsPair}
-use Rattle.lift_core.specs.Inside.PairSums.{HasSum, IsIrreducible}
+use Rattle.lift_core.specs.PairSums.{HasSum, IsIrreducible}
 use Rattle.lift_core.specs.declared.machine.Event.{Event}
 use Rattle.lift_core.specs.declared.machine.Event.TheVariants.{Draw, Put, Close}
 use Rattle.lift_core.specs.declared.machine.StepEnd.{StepEnd}

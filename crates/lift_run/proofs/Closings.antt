@@ -6,7 +6,7 @@ use Rattle.std.specs.List.{AllByRecursion}
 use Rattle.lift_core.specs.Systems.{LinearSystem, ToolSystem}
 use Rattle.lift_core.specs.Stages.{IsListed, IsWaiting, IsStageList, AreUsed, ArePairsBefore, all_pairs, HasNoNextNorm, IsNextNorm}
 use Rattle.lift_core.specs.Ends.{Limits, End, ListsAt, EndsIn, by_norm_overflow, by_pairs_spent, by_rows_spent, by_closing, by_row_overflow, by_next_stage, by_finish, IsSolutionList}
-use Rattle.lift_core.specs.Inside.Walks.{WalkEnds, walk_norm_overflow, walk_pairs_spent, walk_rows_spent, walk_closing, walk_row_overflow, walk_next_stage, walk_finish, IsGrown, solutions_in, used_up_to}
+use Rattle.lift_core.specs.Walks.{WalkEnds, walk_norm_overflow, walk_pairs_spent, walk_rows_spent, walk_closing, walk_row_overflow, walk_next_stage, walk_finish, IsGrown, solutions_in, used_up_to}
 use Rattle.lift_core.proofs.Growth.{complete}
 use Rattle.lift_core.proofs.Places.{grown_listed, used_next, all_used, solutions_are, nothing_listed, solutions_wait}
 use Rattle.lift_core.proofs.Grown.{grown_exists}

@@ -8,7 +8,7 @@ use Rattle.std.proofs.lemmas.List.Filters.{length-filter_both}
 use Rattle.lift_core.specs.Systems.{LinearSystem, row}
 use Rattle.lift_core.specs.Stages.{extend, stage_norm, IsNextNorm}
 use Rattle.lift_core.specs.Ends.{Limits, End}
-use Rattle.lift_core.specs.Inside.Walks.{WalkEnds, walk_norm_overflow, walk_pairs_spent, walk_rows_spent, walk_closing, walk_row_overflow, walk_next_stage, walk_finish, solutions_in, still_waiting, used_up_to}
+use Rattle.lift_core.specs.Walks.{WalkEnds, walk_norm_overflow, walk_pairs_spent, walk_rows_spent, walk_closing, walk_row_overflow, walk_next_stage, walk_finish, solutions_in, still_waiting, used_up_to}
 use Rattle.lift_core.proofs.Orders.{in_filter}
 use Rattle.stage_store.specs.Classes.{pairs_of}
 use Rattle.stage_store.proofs.Numbering.{numbered}

@@ -10,7 +10,7 @@ use Rattle.lift_core.specs.ToolSystems.{width}
 use Rattle.lift_core.specs.Stages.{HasNoNextNorm, IsNextNorm, AreUsed}
 use Rattle.lift_core.specs.Ends.{End, norm_overflow, pairs_spent, rows_spent, row_overflow, finished, EndsIn, RunEnds, without_rows, from_stage_one, Limits as Bounds}
 use Rattle.int_vector.specs.Vectors.{largest}
-use Rattle.lift_core.specs.Inside.Walks.{walk_norm_overflow, walk_pairs_spent, walk_rows_spent, walk_closing, walk_row_overflow, walk_next_stage, walk_finish, used_up_to}
+use Rattle.lift_core.specs.Walks.{walk_norm_overflow, walk_pairs_spent, walk_rows_spent, walk_closing, walk_row_overflow, walk_next_stage, walk_finish, used_up_to}
 use Rattle.lift_core.proofs.Walks.{walk_ends}
 use Rattle.stage_store.specs.Stage.{StageValue, IsStage, IsDefined, used_of}
 use Rattle.stage_store.specs.Published.{IsPublished, IsTooLong, IsPublish}

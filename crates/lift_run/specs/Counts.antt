@@ -2,7 +2,7 @@
 use Rattle.std.specs.Prelude.{ℕ, ◌+◌, ◌≤◌, List, ℤ, length}
 use Rattle.lift_core.specs.Systems.{LinearSystem}
 use Rattle.lift_core.specs.Ends.{Limits, End}
-use Rattle.lift_core.specs.Inside.Walks.{WalkEnds, walk_norm_overflow, walk_pairs_spent, walk_rows_spent, walk_closing, walk_row_overflow, walk_next_stage, walk_finish, solutions_in}
+use Rattle.lift_core.specs.Walks.{WalkEnds, walk_norm_overflow, walk_pairs_spent, walk_rows_spent, walk_closing, walk_row_overflow, walk_next_stage, walk_finish, solutions_in}
 
 -- the number of norms that the walk closes
 abbrev pub closed_norms : (S : LinearSystem) (limits : Limits) {k d used : ℕ} {listed waiting : List (List ℤ)} {end : End} → WalkEnds S limits k d used listed waiting end → ℕ

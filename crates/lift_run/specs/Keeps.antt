@@ -6,7 +6,7 @@ use Rattle.outside.specs.Causes.{Rose}
 use Rattle.lift_core.specs.Stages.{IsNextNorm, HasNoNextNorm}
 use Rattle.lift_core.specs.Ends.{End, Limits as Bounds}
 use Rattle.int_vector.specs.Vectors.{largest}
-use Rattle.lift_core.specs.Inside.Walks.{used_up_to}
+use Rattle.lift_core.specs.Walks.{used_up_to}
 use Rattle.stage_store.specs.Stage.{StageValue, used_of}
 use Rattle.stage_store.specs.Lifted.{IsLift}
 use Rattle.stage_store.specs.Published.{IsPublished}

@@ -3,7 +3,7 @@ use Rattle.std.specs.Prelude.{◌≡◌, length, Option, Some, None, Result, Ok,
 use Rattle.lift_core.specs.Systems.{ToolSystem}
 use Rattle.lift_core.specs.ToolSystems.{width}
 use Rattle.lift_core.specs.Ends.{End, norm_overflow, row_overflow, pairs_spent, rows_spent, finished, EndsIn, IsSolutionList, Limits as Bounds}
-use Rattle.lift_core.specs.Inside.Walks.{WalkEnds}
+use Rattle.lift_core.specs.Walks.{WalkEnds}
 use Rattle.stage_store.specs.Stage.{StageValue, used_of}
 use Rattle.stage_store.specs.declared.stage.Finish.{Finish}
 use Rattle.stage_store.specs.declared.stage.Lifted.{Lifted}

@@ -10,7 +10,7 @@ use Rattle.std.proofs.lemmas.List.Elements.{Contains-get_or}
 use Rattle.lift_core.specs.Lists.{IsListOf}
 use Rattle.lift_core.specs.Stages.{stage_norm, norm_cmp, IsPair}
 use Rattle.int_vector.specs.Vectors.{lex_cmp, largest}
-use Rattle.lift_core.specs.Inside.PairSums.{IsNewSum}
+use Rattle.lift_core.specs.PairSums.{IsNewSum}
 use Rattle.lift_core.specs.Times.{times, once_below}
 use Rattle.lift_core.proofs.Lists.{contains_head, contains_tail, each_contained, each_from_contained}
 use Rattle.lift_core.proofs.Times.{times-append, once_yes}

@@ -19,7 +19,7 @@ use Rattle.lift_core.specs.Lists.{IsListOf}
 use Rattle.lift_core.specs.Stages.{last}
 use Rattle.int_vector.specs.Vectors.{lex_cmp, leads_negative, negated}
 use Rattle.lift_core.specs.Columns.{Kind, Homogeneous, Inhomogeneous, Every}
-use Rattle.lift_core.specs.Inside.Written.{HasX0}
+use Rattle.lift_core.specs.Kinds.{HasX0}
 use Rattle.lift_core.proofs.Lists.{each_contained, each_from_contained}
 use Rattle.lift_core.proofs.Orders.{in_filter, from_filter, in_map, from_map}
 use Rattle.solution_files.specs.Outputs.{IsProjected, IsTaken}

@@ -9,7 +9,7 @@ use Rattle.lift_core.specs.declared.Tool.TheVariants.{Graver, Hilbert, Zsolve}
 use Rattle.lift_core.specs.Systems.{ToolSystem}
 use Rattle.lift_core.specs.Lists.{IsListOf}
 use Rattle.int_vector.specs.Vectors.{lex_cmp, leads_negative, negated}
-use Rattle.lift_core.specs.Inside.Written.{HasX0}
+use Rattle.lift_core.specs.Kinds.{HasX0}
 use Rattle.lift_core.specs.Columns.{Homogeneous, Inhomogeneous, Every}
 use Rattle.lift_core.specs.Columns as core
 use Rattle.solution_files.specs.declared.selection.Kind.{Kind}

@@ -7,7 +7,7 @@ ghost use Rattle.lift_core.specs.ToolSystems.{width};
 ghost use Rattle.int_vector.specs.Range.{InRange};
 ghost use Rattle.lift_core.specs.Stages.{last};
 ghost use Rattle.int_vector.specs.Vectors.{lex_cmp, leads_negative, negated};
-ghost use Rattle.lift_core.specs.Inside.Written.{HasX0};
+ghost use Rattle.lift_core.specs.Kinds.{HasX0};
 ghost use Rattle.solution_files.specs.Outputs.{kind_of, grid_of, IsSelected, IsSelection};
 ghost use Rattle.lift_core.specs.Inside.OrderedRows.{rows_behind};
 ghost use Rattle.solution_files.specs.Steps.{projected, AreRows, is_among, is_left_out, without_negatives};

@@ -7,7 +7,7 @@ use Rattle.std.proofs.lemmas.List.{drop-drop}
 use Rattle.std.proofs.lemmas.List.Elements.{Contains-append_cases}
 use Rattle.lift_core.specs.Systems.{LinearSystem, ToolSystem}
 use Rattle.lift_core.specs.Stages.{stage_norm, has_positive_last, has_negative_last, pairs_within, IsNextNorm, IsListed, IsWaiting, AreUsed}
-use Rattle.lift_core.specs.Inside.Walks.{still_waiting, used_up_to}
+use Rattle.lift_core.specs.Walks.{still_waiting, used_up_to}
 use Rattle.int_vector.specs.Vectors.{largest}
 use Rattle.lift_core.proofs.Lists.{contains_cases, contains_nothing, each_contained}
 use Rattle.lift_core.proofs.Orders.{from_filter}

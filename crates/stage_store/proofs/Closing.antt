@@ -7,8 +7,8 @@ use Rattle.lift_core.specs.Systems.{row}
 use Rattle.int_vector.specs.Vectors.{dot, largest}
 use Rattle.int_vector.specs.Operations.{add}
 use Rattle.lift_core.specs.Stages.{stage_norm, norm_cmp, IsStageVector, IsNextNorm}
-use Rattle.lift_core.specs.Inside.PairSums.{IsNewSum}
-use Rattle.lift_core.specs.Inside.Walks.{IsGrown}
+use Rattle.lift_core.specs.PairSums.{IsNewSum}
+use Rattle.lift_core.specs.Walks.{IsGrown}
 use Rattle.lift_core.proofs.Lists.{each_contained, each_from_contained}
 use Rattle.lift_core.proofs.Growth.{stage_sum}
 use Rattle.lift_core.proofs.Systems.{solution_length}

@@ -13,7 +13,7 @@ use Rattle.int_vector.specs.Vectors.{norm, dot, largest}
 use Rattle.lift_core.specs.Systems.{row, Solves}
 use Rattle.lift_core.specs.Stages.{extend, front, last, norm_cmp, IsStageVector}
 use Rattle.lift_core.specs.Ends.{solution_cmp, leaves_range}
-use Rattle.lift_core.specs.Inside.Walks.{solutions_in}
+use Rattle.lift_core.specs.Walks.{solutions_in}
 use Rattle.lift_core.proofs.Lists.{each_from_contained, each_contained}
 use Rattle.lift_core.proofs.Stages.{front-take, last-push}
 use Rattle.lift_core.proofs.Growth.{stage_front}

@@ -5,7 +5,7 @@ use Rattle.std.specs.List.{AllByRecursion, Contains, range_with_len}
 use Rattle.std.proofs.lemmas.List.{get_or_default}
 use Rattle.std.proofs.lemmas.List.FromFn.{length-range_with_len, get_or-range_with_len}
 use Rattle.int_vector.specs.Vectors.{◌⊑◌}
-use Rattle.lift_core.specs.Inside.PairSums.{IsIrreducible}
+use Rattle.lift_core.specs.PairSums.{IsIrreducible}
 use Rattle.row_pool.specs.declared.RowId.{RowId}
 use Rattle.row_pool.specs.Rows.{PoolValue}
 use Rattle.reduce_tree.specs.Tree.{TreeValue, Fits, StandsAt, places_of, AreNotBelow}

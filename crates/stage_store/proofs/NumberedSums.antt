@@ -6,7 +6,7 @@ use Rattle.std.proofs.lemmas.Bool.{cases_lt}
 use Rattle.std.proofs.lemmas.List.Elements.{Contains-append_left, Contains-append_right, Contains-append_cases, Contains-get_or}
 use Rattle.int_vector.specs.Vectors.{◌⊑◌, lex_cmp, largest}
 use Rattle.int_vector.specs.Operations.{add}
-use Rattle.lift_core.specs.Inside.PairSums.{HasSum, IsIrreducible, IsNewSum}
+use Rattle.lift_core.specs.PairSums.{HasSum, IsIrreducible, IsNewSum}
 use Rattle.lift_core.proofs.Lists.{contains_cases, contains_head, contains_nothing}
 use Rattle.stage_store.specs.Stage.{StageValue, IsStage}
 use Rattle.stage_store.specs.Classes.{pairs_of, row_at, IsPairAt}

@@ -17,7 +17,7 @@ use Rattle.stage_store.specs.Reaches.{entry_against, with_reach, IsReachOr, AreR
 use Rattle.stage_store.specs.Sieve.{HasNoNewSum}
 use Rattle.std.proofs.Common.{subst₂, Option, Some, None}
 use Rattle.std.proofs.lemmas.List.Elements.{Contains-get_or}
-use Rattle.lift_core.specs.Inside.PairSums.{IsIrreducible}
+use Rattle.lift_core.specs.PairSums.{IsIrreducible}
 use Rattle.lift_core.proofs.Stages.{last-get_or}
 use Rattle.row_pool.specs.declared.RowId.{RowId}
 use Rattle.row_pool.specs.Rows.{PoolValue}

@@ -11,7 +11,7 @@ use Rattle.lift_core.specs.ToolSystems.{IsToolSystem, width}
 use Rattle.int_vector.specs.Range.{InRange}
 use Rattle.lift_core.specs.Stages.{extend, stage_norm, norm_cmp, has_positive_last, has_negative_last, IsStageList, ArePairsBefore, AreUsed, all_pairs, HasNoNextNorm}
 use Rattle.lift_core.specs.Ends.{solution_cmp, IsSolutionList}
-use Rattle.lift_core.specs.Inside.Walks.{solutions_in}
+use Rattle.lift_core.specs.Walks.{solutions_in}
 use Rattle.lift_core.proofs.Lists.{each_from_contained, each_contained}
 use Rattle.lift_core.proofs.Stages.{front-push}
 use Rattle.lift_core.proofs.Systems.{solution_length}

@@ -4,7 +4,7 @@ use Rattle.std.specs.Prelude.{IsTrue, ℤ, pos, ◌+ℤ◌, ◌<ℤ◌, nat_abs}
 use Rattle.std.specs.List.{AllZip}
 use Rattle.int_vector.specs.Operations.{AreConformal, add}
 use Rattle.lift_core.specs.Systems.{LinearSystem, ObeysCaps}
-use Rattle.lift_core.specs.Inside.PairSums.{HasSum}
+use Rattle.lift_core.specs.PairSums.{HasSum}
 use Rattle.lift_core.specs.Stages.{IsPair, front, last, stage_norm}
 use Rattle.lift_core.proofs.Stages.{front-take, front-add, last-get_or}
 use Rattle.std.proofs.lemmas.Int.{ints}

@@ -6,7 +6,7 @@ use Rattle.std.proofs.lemmas.Bool.{cases_Bool, cases_lt, cases_eq, eq-eqb, ne_eq
 use Rattle.std.proofs.lemmas.List.{length-map}
 use Rattle.std.proofs.lemmas.List.Sums.{sum_by-cons}
 use Rattle.lift_core.specs.Stages.{stage_norm, last, has_positive_last, has_negative_last, pairs_within, IsNextNorm}
-use Rattle.lift_core.specs.Inside.Walks.{used_up_to}
+use Rattle.lift_core.specs.Walks.{used_up_to}
 use Rattle.lift_core.proofs.Counts.{sum_by-same, sum_by-nothing, pairs_within-filter}
 use Rattle.stage_store.specs.Classes.{pairs_of}
 use Rattle.stage_store.specs.Stage.{StageValue, IsStage, used_of}

@@ -9,8 +9,8 @@ use Rattle.std.proofs.lemmas.List.Elements.{Contains-append_left, Contains-appen
 use Rattle.lift_core.specs.Lists.{IsListOf}
 use Rattle.lift_core.specs.Stages.{stage_norm, norm_cmp, IsWaitingAt, IsNextNorm}
 use Rattle.int_vector.specs.Vectors.{lex_cmp, largest}
-use Rattle.lift_core.specs.Inside.PairSums.{IsNewSum}
-use Rattle.lift_core.specs.Inside.Walks.{IsGrown, still_waiting}
+use Rattle.lift_core.specs.PairSums.{IsNewSum}
+use Rattle.lift_core.specs.Walks.{IsGrown, still_waiting}
 use Rattle.lift_core.proofs.Lists.{contains_cases, contains_head, contains_tail, contains_nothing, each_contained, each_from_contained}
 use Rattle.lift_core.proofs.Orders.{norm_cmp_total, norm_same}
 use Rattle.stage_store.specs.Merge.{merged}

@@ -7,7 +7,7 @@ use Rattle.int_vector.specs.Vectors.{◌⊑◌, lex_cmp, largest}
 use Rattle.int_vector.specs.Operations.{add}
 use Rattle.lift_core.specs.Systems.{LinearSystem}
 use Rattle.lift_core.specs.Stages.{stage_norm, IsPair}
-use Rattle.lift_core.specs.Inside.PairSums.{HasSum, IsIrreducible}
+use Rattle.lift_core.specs.PairSums.{HasSum, IsIrreducible}
 use Rattle.stage_store.specs.Classes.{row_at, rows_at}
 
 -- the width of the rows, and the rows in lexicographic order

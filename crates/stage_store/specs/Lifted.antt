@@ -5,7 +5,7 @@ use Rattle.lift_core.specs.Systems.{ToolSystem, row}
 use Rattle.lift_core.specs.ToolSystems.{width}
 use Rattle.lift_core.specs.Stages.{extend}
 use Rattle.lift_core.specs.Ends.{leaves_range, IsSolutionList}
-use Rattle.lift_core.specs.Inside.Walks.{solutions_in}
+use Rattle.lift_core.specs.Walks.{solutions_in}
 use Rattle.row_pool.specs.Rows.{PoolValue}
 use Rattle.stage_store.specs.Stage.{StageValue, IsDefined, used_of}
 use Rattle.stage_store.specs.declared.stage.Finish.{Finish}

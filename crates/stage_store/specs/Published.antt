@@ -4,8 +4,8 @@ use Rattle.lift_core.specs.ToolSystems.{width}
 use Rattle.lift_core.specs.Lists.{IsListOf}
 use Rattle.std.specs.List.{AllByRecursion}
 use Rattle.lift_core.specs.Stages.{norm_cmp, stage_norm, has_positive_last, has_negative_last}
-use Rattle.lift_core.specs.Inside.PairSums.{IsNewSum}
-use Rattle.lift_core.specs.Inside.Walks.{IsGrown, still_waiting, used_up_to}
+use Rattle.lift_core.specs.PairSums.{IsNewSum}
+use Rattle.lift_core.specs.Walks.{IsGrown, still_waiting, used_up_to}
 use Rattle.stage_store.specs.Stage.{StageValue, used_of}
 use Rattle.stage_store.specs.Classes.{places, pairs_of}
 use Rattle.stage_store.specs.declared.stage.Closed.{Closed}

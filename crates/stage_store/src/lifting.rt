@@ -8,7 +8,7 @@ ghost use Rattle.std.specs.Ordering.{int_eq};
 ghost use Rattle.lift_core.specs.Stages.{last};
 ghost use Rattle.lift_core.specs.ToolSystems.{width};
 ghost use Rattle.lift_core.specs.Ends.{IsSolutionList};
-ghost use Rattle.lift_core.specs.Inside.Walks.{solutions_in};
+ghost use Rattle.lift_core.specs.Walks.{solutions_in};
 ghost use Rattle.stage_store.specs.Lifted.{ExtendsOr};
 ghost use Rattle.stage_store.specs.UnitVectors.{unit_column, unit_entry};
 

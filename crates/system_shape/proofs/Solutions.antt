@@ -9,7 +9,8 @@ use Rattle.lift_core.specs.Columns.{HasSign, Kind, Homogeneous, Inhomogeneous, E
 use Rattle.lift_core.specs.Systems.{Solves, IsMinimalSolution}
 use Rattle.lift_core.specs.Lists.{IsListOf}
 use Rattle.lift_core.specs.Stages.{last}
-use Rattle.lift_core.specs.Inside.Written.{HasX0, IsWrittenOf}
+use Rattle.lift_core.specs.Kinds.{HasX0}
+use Rattle.lift_core.specs.Inside.Written.{IsWrittenOf}
 use Rattle.lift_core.proofs.Stages.{last-push}
 use Rattle.system_shape.specs.Problem.{UserSystem, SolvesUser, differences, x0_entry, full_vector, IsX0, IsUserSolution, IsMinimalForUser, IsOfKind, IsWrittenForUser}
 use Rattle.system_shape.specs.Slacks.{slack_parts, linear_system}

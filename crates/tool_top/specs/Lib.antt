@@ -12,7 +12,7 @@ pub use Rattle.outside.specs.Pieces
 pub use Rattle.mat_files.specs.Texts
 pub use Rattle.lift_core.specs.Systems
 pub use Rattle.lift_core.specs.ToolSystems
-pub use Rattle.lift_core.specs.Inside.Written
+pub use Rattle.lift_core.specs.Kinds
 pub use Rattle.system_shape.specs.Problem
 pub use Rattle.system_shape.specs.Slacks
 pub use Rattle.system_shape.specs.Shape

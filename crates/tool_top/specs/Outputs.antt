@@ -5,7 +5,7 @@ use Rattle.outside.specs.Files.{Files}
 use Rattle.int_vector.specs.Vectors.{norm}
 use Rattle.lift_core.specs.Columns.{Kind, Every, Homogeneous, Inhomogeneous}
 use Rattle.lift_core.specs.Systems.{LinearSystem, ToolSystem}
-use Rattle.lift_core.specs.Inside.Written.{HasX0}
+use Rattle.lift_core.specs.Kinds.{HasX0}
 use Rattle.lift_core.specs.declared.Tool.{Tool}
 use Rattle.lift_core.specs.declared.Tool.TheVariants.{Graver, Hilbert, Zsolve}
 use Rattle.stage_store.specs.Stage.{IsDefined}

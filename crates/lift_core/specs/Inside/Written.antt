@@ -1,18 +1,13 @@
 -- The rows that are written of a linear system: the first n entries of its minimal solutions of a kind.
-use Rattle.std.specs.Prelude.{◌≡◌, ℕ, List, ℤ, pos, take, length, IsTrue, ⊤}
+use Rattle.std.specs.Prelude.{◌≡◌, ℕ, List, ℤ, pos, take, length, IsTrue}
 use Rattle.int_vector.specs.Vectors.{lex_cmp, negated, leads_negative}
 use Rattle.lift_core.specs.Lists.{IsListOf}
-use Rattle.lift_core.specs.Columns.{Kind, Homogeneous, Inhomogeneous, Every}
+use Rattle.lift_core.specs.Columns.{Kind, Every}
+use Rattle.lift_core.specs.Kinds.{HasX0}
 use Rattle.lift_core.specs.Systems.{LinearSystem, IsMinimalSolution}
 use Rattle.lift_core.specs.Stages.{last}
 use Rattle.lift_core.specs.declared.Tool.{Tool}
 use Rattle.lift_core.specs.declared.Tool.TheVariants.{Graver, Hilbert, Zsolve}
-
--- the last entry, x0, is 0, is 1, or is anything
-abbrev pub HasX0 : Kind → List ℤ → Type 0
-HasX0 Homogeneous v = last v ≡ pos 0
-HasX0 Inhomogeneous v = last v ≡ pos 1
-HasX0 Every v = ⊤
 
 -- x0, the entry of the last column of zsolve; the other tools have no such column
 abbrev pub x0_of : Tool → List ℤ → ℤ

@@ -1,6 +1,6 @@
 use Rattle.std.proofs.Common.{◌≡◌, ◌<◌, ◌≤◌, ◌+◌, ◌++◌, [], ◌∷◌, length, sym, ap, ◌∙◌, arith, length-append, drop, subst, true}
 use Rattle.int_vector.specs.Range.{InRange}
-use Rattle.lift_core.specs.Inside.Written.{HasX0}
+use Rattle.lift_core.specs.Kinds.{HasX0}
 use Rattle.std.proofs.lemmas.List.Elements.{recursion_from_All}
 use Rattle.solution_files.specs.Outputs.{kind_of}
 use Rattle.lift_core.specs.Inside.OrderedRows.{rows_behind}

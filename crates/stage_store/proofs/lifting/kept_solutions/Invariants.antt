@@ -1,5 +1,5 @@
 use Rattle.std.proofs.Common.{◌≡◌, ◌+◌, ◌≤◌, take, length}
-use Rattle.lift_core.specs.Inside.Walks.{solutions_in}
+use Rattle.lift_core.specs.Walks.{solutions_in}
 use Rattle.stage_store.proofs.lifting.kept_solutions.Given as goal
 
 abbrev pub invariant-loop-i : goal.invariant-loop-i

@@ -7,7 +7,7 @@ use Rattle.lift_core.specs.Lists.{IsListOf}
 use Rattle.lift_core.specs.Systems.{LinearSystem, row}
 use Rattle.lift_core.specs.Stages.{extend, front, last, stage_norm, norm_cmp, IsNextNorm, HasNoNextNorm, IsWaitingAt, pairs_within}
 use Rattle.lift_core.specs.Ends.{Limits, End, norm_overflow, row_overflow, pairs_spent, rows_spent, finished, leaves_range}
-use Rattle.lift_core.specs.Inside.PairSums.{IsNewSum}
+use Rattle.lift_core.specs.PairSums.{IsNewSum}
 
 -- the rows with last entry 0, without it
 abbrev pub solutions_in : List (List ℤ) → List (List ℤ)
