@@ -1,0 +1,6 @@
+//! Laws of restart files, above the code that writes and reads them.
+#![tactic(auto)]
+
+mod prefixes;
+
+pub use prefixes::prefix_law;
