@@ -14,7 +14,7 @@ is_longer : (xs ys : List ℕ) → ys ≢ [] → length (xs ++ ys) ≢ length xs
 is_longer xs [] h e = h refl
 is_longer xs (y ∷ ys) h e = omega (arith, e, length-append xs (y ∷ ys))
 
-no_error : {p : Progress} {f : RestartFault} → Err f ≡ Ok p → ⊥
+pub no_error : {p : Progress} {f : RestartFault} → Err f ≡ Ok p → ⊥
 no_error e = absurd cc
 
 module _ (S : ToolSystem) (p : Progress) (more : List ℕ) (some : more ≢ []) where
@@ -31,12 +31,12 @@ module _ (S : ToolSystem) (p : Progress) (more : List ℕ) (some : more ≢ []) 
   runs_over c l bytes out (reads_end d n q) o = (l, reads_more d (λ e. is_longer bytes more some (e ∙ sym n)))
 
 -- the lines and the seal of a file that is accepted
-accepted_seal : (S : ToolSystem) (bytes : List ℕ) (out : Result Progress RestartFault) (p : Progress)
+pub accepted_seal : (S : ToolSystem) (bytes : List ℕ) (out : Result Progress RestartFault) (p : Progress)
     → IsReading S (Some bytes) out → out ≡ Ok p → IsSealed bytes
 accepted_seal S bytes out p (reading_unsealed u) o = absurd (no_error o)
 accepted_seal S bytes out p (reading_lines s r) o = s
 
-accepted_lines : (S : ToolSystem) (bytes : List ℕ) (out : Result Progress RestartFault) (p : Progress)
+pub accepted_lines : (S : ToolSystem) (bytes : List ℕ) (out : Result Progress RestartFault) (p : Progress)
     → IsReading S (Some bytes) out → out ≡ Ok p → Reads S start 1 bytes out
 accepted_lines S bytes out p (reading_unsealed u) o = absurd (no_error o)
 accepted_lines S bytes out p (reading_lines s r) o = r
