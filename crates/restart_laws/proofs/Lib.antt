@@ -1,0 +1,3 @@
+pub mod PrefixReadings
+pub mod LinesLeft
+pub mod AcceptedTexts
