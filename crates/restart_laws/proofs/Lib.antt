@@ -1,0 +1,4 @@
+pub mod WrittenLines
+pub mod WrittenRows
+pub mod WrittenSystem
+pub mod WrittenText

@@ -1,0 +1,6 @@
+//! Laws of restart files: what a text that was written is read as.
+#![tactic(auto)]
+
+mod written;
+
+pub use written::written_law;
