@@ -2,7 +2,7 @@
 
 ghost use Rattle.restart_laws.specs.Written.{NoOtherIsRead, WrittenIsRead};
 
-/// What was written is read as the same stage: over its file nothing else is answered, and no fault.
+/// What was written is read as the same stage: over its file no other is answered, and no fault.
 pub fn written_law()
     ensures read { WrittenIsRead }
     ensures same { NoOtherIsRead }
