@@ -1,6 +1,10 @@
+pub use Rattle.outside.specs.Files
 pub use Rattle.lift_core.specs.Systems
 pub use Rattle.lift_core.specs.ToolSystems
+pub use Rattle.stage_store.specs.Stage
 pub use Rattle.restart_file.specs.Texts
 pub use Rattle.restart_file.specs.Reading
+pub use Rattle.restart_file.specs.Stored
+pub mod Written
 pub mod Prefixes
 pub mod Accepted
