@@ -11,11 +11,11 @@ use Rattle.backups.specs.Backups.{written_in_turn}
 use Rattle.backups.specs.Standing.{names_after}
 
 -- a file that was written, and another
-written_file : (name text : List ℕ) (files : Files) → get (written name text files) name ≡ Some text
+pub written_file : (name text : List ℕ) (files : Files) → get (written name text files) name ≡ Some text
 written_file name text files = get-insert nat_list_cmp_total files name text name ∙ ap (λ b. cond b
     (Some text) (get files name)) (own_name name name refl)
 
-other_file : (name other text : List ℕ) (files : Files) → (other ≡ name → ⊥)
+pub other_file : (name other text : List ℕ) (files : Files) → (other ≡ name → ⊥)
     → get (written name text files) other ≡ get files other
 other_file name other text files differ = get-insert nat_list_cmp_total files name text other ∙ ap
     (λ b. cond b (Some text) (get files other)) (other_name other name differ)

@@ -4,3 +4,4 @@ pub mod Finished
 pub mod Wanted
 pub mod Sequences
 pub mod Speaking
+pub mod Solved

@@ -1,6 +1,7 @@
 pub mod Names
 pub mod Plan
 pub mod Outputs
+pub mod Solved
 pub mod Expected
 pub mod Summary
 pub mod Messages

@@ -19,6 +19,7 @@ ghost use Rattle.tool_top.specs.Outputs.{to_write, written_all};
 ghost use Rattle.tool_top.specs.Expected.{ComesTo, IsExpected, OnDone, StartsAs, limits_of};
 ghost use Rattle.tool_top.specs.Messages.{Speaks};
 ghost use Rattle.tool_top.specs.Summary.{Tells, code_of};
+ghost use Rattle.tool_top.specs.Solved.{Solves};
 ghost use Rattle.tool_top.specs.Left.{HasWritten, Leaves, turns_for};
 ghost use Rattle.tool_top.specs.Inside.Ends.{Ends, Asks, FindsStartOf, end_of, HasSinkCause};
 ghost use Rattle.tool_top.specs.Inside.Names.{AreRestartNames};
@@ -368,7 +369,12 @@ pub fn run_tool<R: Threads + Sync, F: Folder, O: Sink, E: Sink, G: Gate + Sync>(
     err: &mut E,
     gate: &G,
 ) -> Status
-    // Where the folder tells its files: at Done, the output files hold exactly the wanted rows of the user's own system,
+    // The theorem: a run from nothing that ends well has left exactly the wanted rows of the user's own system in the
+    // output files, where the folder tells its files.
+    ensures solved { IfSome (F.held folder.old) (λ files.
+        OnDone result.end (Solves tool (job_of tool words.now) files (F.held folder.new))) }
+
+    // For every run, a resumed one too: at Done, the output files hold exactly the wanted rows of the user's own system,
     // the restart files have their backups, and all other files are as before. (Where a run is resumed, `AreOutputs` says
     // from which files: from each that an earlier run of the system has written.)
     ensures written { IfSome (F.held folder.old) (λ files.

@@ -2,7 +2,18 @@ use Rattle.outside.specs.Causes.{Rose}
 use Rattle.tool_words.specs.Jobs.{job_of}
 use Rattle.tool_top.specs.Plan.{planned}
 use Rattle.tool_top.proofs.Conclusions.{asks_of, all-written, all-expected, all-left, headline}
+use Rattle.tool_top.proofs.Solved.{all-solved}
 use Rattle.tool_top.proofs.top.run_tool.Goals as goal
+
+pub returns-clause-solved : goal.returns-clause-solved
+returns-clause-solved g c =
+    all-solved c.args.tool (job_of c.args.tool c.args.words.now) (g.F.Folder.held c.args.folder.now)
+    (g.F.Folder.held c.finish-end.new.folder) c.finish-end.result (
+    all-written (g.F.Folder.held c.args.folder.now) (g.F.Folder.held c.finish-end.new.folder) (λ
+    files. planned c.args.tool c.args.words.now files) (g.O.Sink.held c.args.out.now)
+    (g.O.Sink.held c.finish-end.new.out)
+    c.finish-end.result (c.finish-end.ensures.ends (job_of c.args.tool c.args.words.now) (asks_of
+    c.args.tool c.args.words.now c.read_words-job.result c.read_words-job.ensures.reads)))
 
 pub returns-clause-written : goal.returns-clause-written
 returns-clause-written g c =
