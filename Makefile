@@ -1,7 +1,7 @@
 # make demo               proves and builds `hilbert`, and runs it on two examples
 # make test               the whole merge gate
 # make pictures           the pictures of examples/ and docs/, anew from the files that the programs wrote
-# make install PREFIX=DIR the programs under their own names and their man pages below DIR, as the gate or the demo built them
+# make install PREFIX=DIR the programs under their own names and their man pages below DIR, as the gate built them
 PREFIX ?= /usr/local
 EXAMPLES ?= unit-vectors magic-squares
 SOURCES := $(shell find crates -path '*/out' -prune -o -type f -print) crates.txt

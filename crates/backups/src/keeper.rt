@@ -77,7 +77,13 @@ impl<'a, F: Folder> Keep for Backup<'a, F> {
 
     ghost use Rattle.backups.specs.Backups.{after_norm, MayBackUp};
 
-    ghost state = { λ b. Some (record { lent = b.folder.ghost_name; files = F.held b.folder.now; names = b.next.now ∷ b.other.now ∷ []; interval = b.interval; left = b.left }) };
+    ghost state = { λ b. Some (record {
+      lent = b.folder.ghost_name;
+      files = F.held b.folder.now;
+      names = b.next.now ∷ b.other.now ∷ [];
+      interval = b.interval;
+      left = b.left;
+    }) };
 
     ghost faults = { λ b. F.faults b.folder.now };
 

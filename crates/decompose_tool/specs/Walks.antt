@@ -23,7 +23,9 @@ abbrev pub IsWalk : List (List ℤ) → List ℤ → List Term → List ℤ → 
 IsWalk [] rest terms left = (terms ≡ []) × (rest ≡ left)
 IsWalk (u ∷ us) rest terms left =
     (IsMost u rest 0 × IsWalk us rest terms left)
-    ⊎ ((c : ℕ) × (later : List Term) × (1 ≤ c) × IsMost u rest c × (terms ≡ record { count = c; vector = u } ∷ later) × IsWalk us (subtract rest (times c u)) later left)
+    ⊎ ((c : ℕ) × (later : List Term) × (1 ≤ c) × IsMost u rest c
+    × (terms ≡ record { count = c; vector = u } ∷ later)
+    × IsWalk us (subtract rest (times c u)) later left)
 
 -- the vectors of the terms, each as often as it was taken
 abbrev pub multiples : List Term → List (List ℤ)

@@ -59,24 +59,33 @@ pub record ComesTo {X : Type 0} (after : X → StageValue → X) (limits : Bound
   pub told : new ≡ option_map (λ x. fold after x closed) old
 
 -- the state is that after these stages, or one that a refused further stage may leave
-abbrev pub MayStand : {X : Type 0} → (X → StageValue → X) → (X → StageValue → X → Type 0) → Bounds → StageValue → List StageValue → Option X → Option X → Type 0
+abbrev pub MayStand :
+    {X : Type 0} → (X → StageValue → X) → (X → StageValue → X → Type 0)
+    → Bounds → StageValue → List StageValue → Option X → Option X → Type 0
 MayStand after torn limits final closed old new =
     (new ≡ option_map (λ x. fold after x closed) old)
     ⊎ ((t : StageValue) × IsClosing limits final t × IfSome old (λ x. IfSome new (torn (fold after x closed) t)))
 
 -- the walk breaks off: the Keep was told of the first norms that it closes, in order, each once, and a further one may have been refused
-pub record BreaksOff {X : Type 0} (after : X → StageValue → X) (torn : X → StageValue → X → Type 0) (limits : Bounds) (s : StageValue) (old new : Option X) : Type 0 where
+pub record BreaksOff
+    {X : Type 0} (after : X → StageValue → X) (torn : X → StageValue → X → Type 0)
+    (limits : Bounds) (s : StageValue) (old new : Option X) : Type 0 where
   pub closed : List StageValue
   pub final : StageValue
   pub leads : Leads limits s closed final
   pub stands : MayStand after torn limits final closed old new
 
 -- by the end that is named; running out of memory and a failed Keep name none
-abbrev pub TellsTo : {X : Type 0} → (X → StageValue → X) → (X → StageValue → X → Type 0) → Bounds → StageValue → Option End → Option X → Option X → Type 0
-TellsTo after torn limits s named old new = MatchOption named (BreaksOff after torn limits s old new) (λ end. ComesTo after limits s end old new)
+abbrev pub TellsTo :
+    {X : Type 0} → (X → StageValue → X) → (X → StageValue → X → Type 0)
+    → Bounds → StageValue → Option End → Option X → Option X → Type 0
+TellsTo after torn limits s named old new =
+    MatchOption named (BreaksOff after torn limits s old new) (λ end. ComesTo after limits s end old new)
 
 -- what the Keep was told at an answer of a run; nothing, where the finish was handed in
-abbrev pub TellsKeep : {X : Type 0} → (X → StageValue → X) → (X → StageValue → X → Type 0) → Bounds → Lifted → Result Finish RunEnd → Option X → Option X → Type 0
+abbrev pub TellsKeep :
+    {X : Type 0} → (X → StageValue → X) → (X → StageValue → X → Type 0)
+    → Bounds → Lifted → Result Finish RunEnd → Option X → Option X → Type 0
 TellsKeep after torn limits (Next s) answer old new = TellsTo after torn limits s (end_of answer) old new
 TellsKeep after torn limits (Last f) answer old new = new ≡ old
 

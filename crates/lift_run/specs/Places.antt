@@ -51,6 +51,9 @@ LeadsThroughDefined =
     → AllByRecursion (λ t. IsDefined t × (t.system ≡ s.system)) closed
 
 -- what the Keep was told of a run from the start: that of the run from the first stage, or nothing where memory was refused before it
-abbrev pub TellsFromStart : {X : Type 0} → (X → StageValue → X) → (X → StageValue → X → Type 0) → Limits → ToolSystem → Result Finish RunEnd → Option X → Option X → Type 0
+abbrev pub TellsFromStart :
+    {X : Type 0} → (X → StageValue → X) → (X → StageValue → X → Type 0)
+    → Limits → ToolSystem → Result Finish RunEnd → Option X → Option X → Type 0
 TellsFromStart after torn limits S answer old new =
-    ((first : Lifted) × IsFirst S first × TellsKeep after torn limits first answer old new) ⊎ ((end_of answer ≡ None) × (new ≡ old))
+    ((first : Lifted) × IsFirst S first × TellsKeep after torn limits first answer old new)
+    ⊎ ((end_of answer ≡ None) × (new ≡ old))

@@ -35,16 +35,14 @@ pub record IsUntouched (t : Traces) : Type 0 where
   pub out : t.out_after ≡ t.out_before
 
 -- ---- restart files
--- how often the job's run writes a restart file, and the two names in turn: the first backup of a
--- resumed run goes to the file
--- that was not taken
+-- how often the job's run writes a restart file, and the two names in turn: the first backup of a resumed run goes
+-- to the file that was not taken
 abbrev pub turns_for : Job → Start → Turns
 turns_for job start = turns_from (first_slot start) (interval_for job.tables job.backup)
     (file_name (project_of job) Ckp0) (file_name (project_of job) Ckp1)
 
--- the files that the plan's run leaves, all its backups among them, where it comes to this end;
--- where none is named, those of
--- the first norms that it closes, of which the last may be torn
+-- the files that the plan's run leaves, all its backups among them, where it comes to this end; where none is
+-- named, those of the first norms that it closes, of which the last may be torn
 abbrev pub BacksUp : Plan → Start → Option LiftEnd → Files → Option Files → Type 0
 BacksUp p start named before after = LeavesRun (turns_for p.job start) (limits_of p.job) start named
     before after

@@ -64,11 +64,9 @@ AreSoundOf Zsolve S files =
     × ArePartsOfSolutions S Inhomogeneous inhom
     × (files ≡ file_of Zhom S.n hom ∷ file_of Zinhom S.n inhom ∷ [])
 
--- the files of a run from its start. From nothing they have exactly the wanted rows. So they have
--- from the stage of a restart
--- file whose lists are the defined ones, as those of each earlier run of the system are; from any
--- other accepted file each
--- row is that of some solution
+-- the files of a run from its start. From nothing they have exactly the wanted rows. So they have from the stage of
+-- a restart file whose lists are the defined ones, as those of each earlier run of the system are; from any other
+-- accepted file each row is that of some solution
 abbrev pub AreOutputs : Plan → Start → List OutputFile → Type 0
 AreOutputs p (Fresh S) files = AreOutputsOf p.tool (user_of p) p.input.mat.cols files
 AreOutputs p (Resumed s slot) files =

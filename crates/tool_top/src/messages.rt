@@ -95,8 +95,11 @@ fn put_entries<E: Sink>(err: &mut E, cells: &[i64]) -> Result<(), PutEnd>
 
 // Puts the name of a part's file, and a colon.
 pub(crate) fn put_file<E: Sink>(err: &mut E, project: &str, part: Part) -> Result<(), PutEnd>
-    ensures done { OnOk result (E.held err.new ≡ append_known (E.held err.old) (text_of_parts (part_name project.now part ∷ codes ": " ∷ []))) }
-    ensures refused { OnErr result (MayPut (text_of_parts (part_name project.now part ∷ codes ": " ∷ [])) (E.held err.old) (E.held err.new)) }
+    ensures done { OnOk result (E.held err.new ≡ append_known (E.held err.old)
+        (text_of_parts (part_name project.now part ∷ codes ": " ∷ []))) }
+    ensures refused { OnErr result (MayPut
+        (text_of_parts (part_name project.now part ∷ codes ": " ∷ []))
+        (E.held err.old) (E.held err.new)) }
     ensures cause { HasCause (E.faults err.old) (E.faults err.new) result }
 {
     match part {
@@ -224,8 +227,11 @@ fn shape_part(fault: ShapeFault) -> Part
 
 // Puts the name of the file in which the fault is seen, and what is wrong.
 fn put_shape_line<E: Sink>(err: &mut E, project: &str, fault: ShapeFault) -> Result<(), PutEnd>
-    ensures done { OnOk result (E.held err.new ≡ append_known (E.held err.old) (text_of_parts (about project.now (shape_part fault) (shape_fault_words fault)))) }
-    ensures refused { OnErr result (MayPut (text_of_parts (about project.now (shape_part fault) (shape_fault_words fault))) (E.held err.old) (E.held err.new)) }
+    ensures done { OnOk result (E.held err.new ≡ append_known (E.held err.old)
+        (text_of_parts (about project.now (shape_part fault) (shape_fault_words fault)))) }
+    ensures refused { OnErr result (MayPut
+        (text_of_parts (about project.now (shape_part fault) (shape_fault_words fault)))
+        (E.held err.old) (E.held err.new)) }
     ensures cause { HasCause (E.faults err.old) (E.faults err.new) result }
 {
     put_file(err, project, shape_part(fault))?;
@@ -234,8 +240,11 @@ fn put_shape_line<E: Sink>(err: &mut E, project: &str, fault: ShapeFault) -> Res
 
 // Puts a norm that leaves the range.
 fn put_norm<E: Sink>(err: &mut E, stage: u32, norm: u64) -> Result<(), PutEnd>
-    ensures done { OnOk result (E.held err.new ≡ append_known (E.held err.old) (text_of_parts (codes "overflow at equation " ∷ decimal stage ∷ codes ": norm " ∷ decimal norm ∷ []))) }
-    ensures refused { OnErr result (MayPut (text_of_parts (codes "overflow at equation " ∷ decimal stage ∷ codes ": norm " ∷ decimal norm ∷ [])) (E.held err.old) (E.held err.new)) }
+    ensures done { OnOk result (E.held err.new ≡ append_known (E.held err.old)
+        (text_of_parts (codes "overflow at equation " ∷ decimal stage ∷ codes ": norm " ∷ decimal norm ∷ []))) }
+    ensures refused { OnErr result (MayPut
+        (text_of_parts (codes "overflow at equation " ∷ decimal stage ∷ codes ": norm " ∷ decimal norm ∷ []))
+        (E.held err.old) (E.held err.new)) }
     ensures cause { HasCause (E.faults err.old) (E.faults err.new) result }
 {
     let mut first = Buffer::new();
@@ -253,8 +262,11 @@ fn put_norm<E: Sink>(err: &mut E, stage: u32, norm: u64) -> Result<(), PutEnd>
 
 // Puts a solution with which a product leaves the range.
 fn put_solution<E: Sink>(err: &mut E, stage: u32, cells: &[i64]) -> Result<(), PutEnd>
-    ensures done { OnOk result (E.held err.new ≡ append_known (E.held err.old) (text_of_parts (codes "overflow at equation " ∷ decimal stage ∷ codes ": solution" ∷ entries cells.now))) }
-    ensures refused { OnErr result (MayPut (text_of_parts (codes "overflow at equation " ∷ decimal stage ∷ codes ": solution" ∷ entries cells.now)) (E.held err.old) (E.held err.new)) }
+    ensures done { OnOk result (E.held err.new ≡ append_known (E.held err.old)
+        (text_of_parts (codes "overflow at equation " ∷ decimal stage ∷ codes ": solution" ∷ entries cells.now))) }
+    ensures refused { OnErr result (MayPut
+        (text_of_parts (codes "overflow at equation " ∷ decimal stage ∷ codes ": solution" ∷ entries cells.now))
+        (E.held err.old) (E.held err.new)) }
     ensures cause { HasCause (E.faults err.old) (E.faults err.new) result }
 {
     put_number(err, b"overflow at equation ", stage as u64, b": solution")?;
@@ -270,8 +282,11 @@ fn put_spent<E: Sink>(
     needed: u64,
     things: &[u8],
 ) -> Result<(), PutEnd>
-    ensures done { OnOk result (E.held err.new ≡ append_known (E.held err.old) (text_of_parts (budget.now ∷ decimal stage ∷ codes ", norm " ∷ decimal norm ∷ codes ": " ∷ decimal needed ∷ things.now ∷ []))) }
-    ensures refused { OnErr result (MayPut (text_of_parts (budget.now ∷ decimal stage ∷ codes ", norm " ∷ decimal norm ∷ codes ": " ∷ decimal needed ∷ things.now ∷ [])) (E.held err.old) (E.held err.new)) }
+    ensures done { OnOk result (E.held err.new ≡ append_known (E.held err.old)
+        (text_of_parts (budget.now ∷ decimal stage ∷ codes ", norm " ∷ decimal norm ∷ codes ": " ∷ decimal needed ∷ things.now ∷ []))) }
+    ensures refused { OnErr result (MayPut
+        (text_of_parts (budget.now ∷ decimal stage ∷ codes ", norm " ∷ decimal norm ∷ codes ": " ∷ decimal needed ∷ things.now ∷ []))
+        (E.held err.old) (E.held err.new)) }
     ensures cause { HasCause (E.faults err.old) (E.faults err.new) result }
 {
     let mut first = Buffer::new();
@@ -339,8 +354,13 @@ fn put_usage<E: Sink>(err: &mut E, tool: Tool) -> Result<(), PutEnd>
 
 // Puts the pairs that would be needed.
 fn put_pairs<E: Sink>(err: &mut E, stage: u32, norm: u64, needed: u64) -> Result<(), PutEnd>
-    ensures done { OnOk result (E.held err.new ≡ append_known (E.held err.old) (text_of_parts (codes "pair budget spent at equation " ∷ decimal stage ∷ codes ", norm " ∷ decimal norm ∷ codes ": " ∷ decimal needed ∷ codes " pairs needed" ∷ []))) }
-    ensures refused { OnErr result (MayPut (text_of_parts (codes "pair budget spent at equation " ∷ decimal stage ∷ codes ", norm " ∷ decimal norm ∷ codes ": " ∷ decimal needed ∷ codes " pairs needed" ∷ [])) (E.held err.old) (E.held err.new)) }
+    ensures done { OnOk result (E.held err.new ≡ append_known (E.held err.old)
+        (text_of_parts (codes "pair budget spent at equation " ∷ decimal stage
+        ∷ codes ", norm " ∷ decimal norm ∷ codes ": " ∷ decimal needed ∷ codes " pairs needed" ∷ []))) }
+    ensures refused { OnErr result (MayPut
+        (text_of_parts (codes "pair budget spent at equation " ∷ decimal stage
+        ∷ codes ", norm " ∷ decimal norm ∷ codes ": " ∷ decimal needed ∷ codes " pairs needed" ∷ []))
+        (E.held err.old) (E.held err.new)) }
     ensures cause { HasCause (E.faults err.old) (E.faults err.new) result }
 {
     put_spent(
@@ -355,8 +375,13 @@ fn put_pairs<E: Sink>(err: &mut E, stage: u32, norm: u64, needed: u64) -> Result
 
 // Puts the rows that would be needed.
 fn put_rows<E: Sink>(err: &mut E, stage: u32, norm: u64, count: u64) -> Result<(), PutEnd>
-    ensures done { OnOk result (E.held err.new ≡ append_known (E.held err.old) (text_of_parts (codes "row budget spent at equation " ∷ decimal stage ∷ codes ", norm " ∷ decimal norm ∷ codes ": " ∷ decimal count ∷ codes " rows needed" ∷ []))) }
-    ensures refused { OnErr result (MayPut (text_of_parts (codes "row budget spent at equation " ∷ decimal stage ∷ codes ", norm " ∷ decimal norm ∷ codes ": " ∷ decimal count ∷ codes " rows needed" ∷ [])) (E.held err.old) (E.held err.new)) }
+    ensures done { OnOk result (E.held err.new ≡ append_known (E.held err.old)
+        (text_of_parts (codes "row budget spent at equation " ∷ decimal stage
+        ∷ codes ", norm " ∷ decimal norm ∷ codes ": " ∷ decimal count ∷ codes " rows needed" ∷ []))) }
+    ensures refused { OnErr result (MayPut
+        (text_of_parts (codes "row budget spent at equation " ∷ decimal stage
+        ∷ codes ", norm " ∷ decimal norm ∷ codes ": " ∷ decimal count ∷ codes " rows needed" ∷ []))
+        (E.held err.old) (E.held err.new)) }
     ensures cause { HasCause (E.faults err.old) (E.faults err.new) result }
 {
     put_spent(
@@ -398,8 +423,11 @@ fn put_words<E: Sink>(err: &mut E, tool: Tool, project: &str, end: &End) -> Resu
 
 // Puts what a line says, and ends it.
 fn put_line<E: Sink>(err: &mut E, tool: Tool, project: &str, end: &End) -> Result<(), PutEnd>
-    ensures done { OnOk result (E.held err.new ≡ append_known (E.held err.old) (text_of_parts (words_of tool project.now end.now ++ codes "\n" ∷ []))) }
-    ensures refused { OnErr result (MayPut (text_of_parts (words_of tool project.now end.now ++ codes "\n" ∷ [])) (E.held err.old) (E.held err.new)) }
+    ensures done { OnOk result (E.held err.new ≡ append_known (E.held err.old)
+        (text_of_parts (words_of tool project.now end.now ++ codes "\n" ∷ []))) }
+    ensures refused { OnErr result (MayPut
+        (text_of_parts (words_of tool project.now end.now ++ codes "\n" ∷ []))
+        (E.held err.old) (E.held err.new)) }
     ensures cause { HasCause (E.faults err.old) (E.faults err.new) result }
 {
     put_words(err, tool, project, end)?;

@@ -30,14 +30,24 @@ pub record GoesOn {X : Type 0} (after : X → StageValue → X) (limits : Bounds
   pub defined : IsDefined old → IsDefined new
 
 -- norm e is closed and kept, or the Keep was told of what was closed before it
-abbrev pub ClosesNorm : {X : Type 0} → (X → StageValue → X) → (X → StageValue → X → Type 0) → Bounds → ℕ → StageValue → StageValue → Option X → Option X → Result (Unit {0}) RunEnd → Type 0
-ClosesNorm after torn limits e old new before now (Ok u) = GoesOn after limits old new before now × (new.norm ≡ e) × (new.number ≡ old.number)
-ClosesNorm after torn limits e old new before now (Err end) = TellsTo after torn limits old (end_of_error end) before now
+abbrev pub ClosesNorm :
+    {X : Type 0} → (X → StageValue → X) → (X → StageValue → X → Type 0)
+    → Bounds → ℕ → StageValue → StageValue → Option X → Option X → Result (Unit {0}) RunEnd → Type 0
+ClosesNorm after torn limits e old new before now (Ok u) =
+    GoesOn after limits old new before now × (new.norm ≡ e) × (new.number ≡ old.number)
+ClosesNorm after torn limits e old new before now (Err end) =
+    TellsTo after torn limits old (end_of_error end) before now
 
 -- all norms of the stage are closed and kept
-abbrev pub ClosesAll : {X : Type 0} → (X → StageValue → X) → (X → StageValue → X → Type 0) → Bounds → StageValue → StageValue → Option X → Option X → Result (Unit {0}) RunEnd → Type 0
-ClosesAll after torn limits old new before now (Ok u) = GoesOn after limits old new before now × HasNoNextNorm new.listed new.waiting new.norm × (new.number ≡ old.number)
-ClosesAll after torn limits old new before now (Err end) = TellsTo after torn limits old (end_of_error end) before now
+abbrev pub ClosesAll :
+    {X : Type 0} → (X → StageValue → X) → (X → StageValue → X → Type 0)
+    → Bounds → StageValue → StageValue → Option X → Option X → Result (Unit {0}) RunEnd → Type 0
+ClosesAll after torn limits old new before now (Ok u) =
+    GoesOn after limits old new before now
+    × HasNoNextNorm new.listed new.waiting new.norm
+    × (new.number ≡ old.number)
+ClosesAll after torn limits old new before now (Err end) =
+    TellsTo after torn limits old (end_of_error end) before now
 
 -- the run over the stages from the first on is finished
 pub record IsFinished {X : Type 0} (after : X → StageValue → X) (limits : Bounds) (first : StageValue) (f : Finish) (before now : Option X) : Type 0 where
@@ -45,6 +55,8 @@ pub record IsFinished {X : Type 0} (after : X → StageValue → X) (limits : Bo
   pub system : IsOfSystem first.system f
   pub solutions : IsDefined first → HasAllSolutions f
 
-abbrev pub RunsFrom : {X : Type 0} → (X → StageValue → X) → (X → StageValue → X → Type 0) → Bounds → StageValue → Option X → Option X → Result Finish RunEnd → Type 0
+abbrev pub RunsFrom :
+    {X : Type 0} → (X → StageValue → X) → (X → StageValue → X → Type 0)
+    → Bounds → StageValue → Option X → Option X → Result Finish RunEnd → Type 0
 RunsFrom after torn limits first before now (Ok f) = IsFinished after limits first f before now
 RunsFrom after torn limits first before now (Err end) = TellsTo after torn limits first (end_of_error end) before now
