@@ -3,7 +3,7 @@ use Rattle.std.proofs.Common.{◌≡◌, ℕ, zero, suc, ◌+◌, ◌^◌, ◌�
 use Rattle.std.specs.Prelude.{ℤ, Option, Some, None, pos, ◌<ℤ◌, int_lt, MatchOption}
 use Rattle.std.specs.List.{Contains, AllByRecursion, flat_map, sum_by}
 use Rattle.std.specs.List.Sorted.{IsStrictlySortedBy}
-use Rattle.lift_core.specs.Stages.{stage_norm, has_positive_last, has_negative_last, norm_cmp, last, IsPair, Occurs, IsNextNorm, HasNoNextNorm}
+use Rattle.lift_core.specs.Stages.{stage_norm, has_positive_last, has_negative_last, norm_cmp, last, Occurs, IsNextNorm, HasNoNextNorm}
 use Rattle.int_vector.specs.Vectors.{largest, norm, lex_cmp}
 use Rattle.lift_core.proofs.Lists.{contains_cases, contains_head, contains_nothing, each_contained}
 use Rattle.lift_core.proofs.Orders.{in_filter, from_filter}

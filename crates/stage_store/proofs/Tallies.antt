@@ -1,5 +1,5 @@
 -- The numbers of the pairs of some norms in a row: what a class more adds to them, and what they tell of the next norm.
-use Rattle.std.proofs.Common.{◌≡◌, ℕ, ◌+◌, ◌-◌, ◌*◌, ◌^◌, ◌≤◌, ◌<◌, List, [], ◌∷◌, ◌++◌, length, get_or, take, drop, refl, ap, sym, ◌∙◌, subst, arith, inl, inr, ◌⊎◌, true, false, cond, eqb, length-append, length-drop, length-take-le, get_or-take, get_or-drop}
+use Rattle.std.proofs.Common.{◌≡◌, ℕ, ◌+◌, ◌-◌, ◌*◌, ◌≤◌, ◌<◌, List, [], ◌∷◌, ◌++◌, length, get_or, take, drop, refl, ap, sym, ◌∙◌, subst, arith, inl, inr, true, false, cond, eqb, length-append, length-drop, length-take-le, get_or-take, get_or-drop}
 use Rattle.std.specs.Prelude.{◌==◌, ℤ, Some}
 use Rattle.std.specs.List.{AllByRecursion, Contains, sum_by}
 use Rattle.std.specs.List.Sorted.{IsStrictlySortedBy}

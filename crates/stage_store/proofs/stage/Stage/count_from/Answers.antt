@@ -1,4 +1,4 @@
-use Rattle.std.proofs.Common.{◌≡◌, ◌≤◌, ◌<◌, ℕ, List, length, ap, sym, subst, subst₂}
+use Rattle.std.proofs.Common.{◌<◌, ℕ, List, length, sym, subst, subst₂}
 use Rattle.std.specs.List.Sorted.{IsStrictlySortedBy}
 use Rattle.stage_store.specs.Classes.{ClassValue, class_cmp, norm_at}
 use Rattle.stage_store.specs.Tallies.{IsTally}

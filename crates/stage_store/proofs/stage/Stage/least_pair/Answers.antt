@@ -1,9 +1,9 @@
-use Rattle.std.proofs.Common.{ℕ, ◌≡◌, ◌≤◌, ◌<◌, arith, length, ap, subst, refl}
+use Rattle.std.proofs.Common.{ℕ, ◌≡◌, arith, ap, subst, refl}
 use Rattle.std.specs.Prelude.{Some}
 use Rattle.lift_core.specs.Stages.{has_positive_last, has_negative_last}
 use Rattle.stage_store.specs.Classes.{AreClasses}
 use Rattle.stage_store.specs.Stage.{IsStage, norm_of}
-use Rattle.stage_store.specs.Least.{IsLeastAbove, HasPairNorm}
+use Rattle.stage_store.specs.Least.{IsLeastAbove}
 use Rattle.stage_store.specs.Answers.{HasStagePair}
 use Rattle.stage_store.proofs.StageFields.{classes_of, stage_of, norms_within, least_of_classes}
 use Rattle.stage_store.proofs.Tallies.{next_noted}

@@ -1,6 +1,6 @@
-use Rattle.std.proofs.Common.{◌≡◌, arith, refl, length}
+use Rattle.std.proofs.Common.{arith, refl}
 use Rattle.lift_core.specs.Stages.{has_positive_last, has_negative_last}
-use Rattle.stage_store.specs.Classes.{AreClasses, pairs_of}
+use Rattle.stage_store.specs.Classes.{AreClasses}
 use Rattle.stage_store.specs.Stage.{IsStage}
 use Rattle.stage_store.proofs.StageFields.{classes_of, stage_of}
 use Rattle.stage_store.proofs.Pairs.{parts_small, pairs_count}
