@@ -22,7 +22,9 @@ use Rattle.stage_store.specs.Sieve.{IsSieve}
 use Rattle.stage_store.specs.declared.sieve.Sieve.{Sieve}
 use Rattle.stage_store.specs.declared.opened.Opened.{Opened}
 use Rattle.stage_store.specs.declared.stage.Following.{Following}
-use Rattle.stage_store.specs.declared.stage.Counted.{Counted}
+use Rattle.stage_store.specs.declared.tally.Tally.{Tally}
+use Rattle.stage_store.specs.Tallies.{IsInRange, HasGained, IsTally}
+use Rattle.stage_store.proofs.Tallies.{tally_grown, positive_norms}
 use Rattle.stage_store.proofs.MoreRows.{ids_after, sieve_after, unknown}
 use Rattle.stage_store.specs.Published.{IsGrowth, IsPublished, IsFurther}
 use Rattle.stage_store.specs.declared.stage.Growth.{Growth}
@@ -88,12 +90,12 @@ pub value_after : (S : ToolSystem) (k d b e waited taken : ℕ) (listed new grow
     → value_of S k e b grown (drop (waited + taken) waiting) ≡ after (value_of S k d b listed (drop waited waiting)) e (listed ++ new) (drop taken (drop waited waiting))
 value_after S k d b e waited taken listed new grown waiting is = ap₂ (λ (l w : List (List ℤ)). value_of S k e b l w) is (sym (drop-drop taken waited waiting))
 
-pub holds_after : (S : ToolSystem) (k d b e limit waited used : ℕ) (listed grown : PoolValue) (tree tree' : TreeValue) (waiting : PoolValue) (plus minus plus' minus' : List ClassValue) (sieve : Sieve) (following following' : Following) (counted counted' : Counted) (ahead ahead' : Opened) (g : Growth)
-    → Holds (value_of S k d b listed.rows (drop waited waiting.rows)) listed tree waiting waited used plus minus sieve following counted ahead
+pub holds_after : (S : ToolSystem) (k d b e limit waited used : ℕ) (listed grown : PoolValue) (tree tree' : TreeValue) (waiting : PoolValue) (plus minus plus' minus' : List ClassValue) (sieve : Sieve) (following following' : Following) (tally mid tally' : Tally) (ahead ahead' : Opened) (g : Growth)
+    → Holds (value_of S k d b listed.rows (drop waited waiting.rows)) listed tree waiting waited used plus minus sieve following tally ahead
     → IsNextNorm listed.rows (drop waited waiting.rows) d e → e ≤ largest → limit ≤ 2 ^ 21 → IsGrowth (value_of S k d b listed.rows (drop waited waiting.rows)) e limit g
-    → grown.width ≡ listed.width → grown.rows ≡ listed.rows ++ g.rows.rows → HoldsRows tree' grown → plus' ≡ with_class g.plus.norm g.plus.ids plus → minus' ≡ with_class g.minus.norm g.minus.ids minus → following'.known ≡ false → counted'.known ≡ false → ahead'.known ≡ false
-    → Holds (value_of S k e b grown.rows (drop (waited + g.taken) waiting.rows)) grown tree' waiting (waited + g.taken) (used + g.pairs) plus' minus' sieve following' counted' ahead'
-holds_after S k d b e limit waited used listed grown tree tree' waiting plus minus plus' minus' sieve following following' counted counted' ahead ahead' g h next small most growth w is i p m f o a =
+    → grown.width ≡ listed.width → grown.rows ≡ listed.rows ++ g.rows.rows → HoldsRows tree' grown → plus' ≡ with_class g.plus.norm g.plus.ids plus → minus' ≡ with_class g.minus.norm g.minus.ids minus → following'.known ≡ false → HasGained tally mid minus g.plus → HasGained mid tally' plus' g.minus → IsInRange tally' → ahead'.known ≡ false
+    → Holds (value_of S k e b grown.rows (drop (waited + g.taken) waiting.rows)) grown tree' waiting (waited + g.taken) (used + g.pairs) plus' minus' sieve following' tally' ahead'
+holds_after S k d b e limit waited used listed grown tree tree' waiting plus minus plus' minus' sieve following following' tally mid tally' ahead ahead' g h next small most growth w is i p m f o q r a =
     let s : StageValue = value_of S k d b listed.rows (drop waited waiting.rows) in
     let t : value_of S k e b grown.rows (drop (waited + g.taken) waiting.rows) ≡ after (value_of S k d b listed.rows (drop waited waiting.rows)) e (listed.rows ++ g.rows.rows) (drop g.taken (drop waited waiting.rows)) = value_after S k d b e waited g.taken listed.rows g.rows.rows grown.rows waiting.rows is in
     record {
@@ -110,7 +112,10 @@ holds_after S k d b e limit waited used listed grown tree tree' waiting plus min
       minus_ids = ids_after has_negative_last (length listed.rows) g.rows.rows minus minus' g.minus.norm g.minus.ids h.minus_ids growth.minus_ids m;
       sieve_is = subst (λ (l : List (List ℤ)). IsSieve S.equations l e sieve) (sym is) (sieve_after S.equations listed.rows g.rows.rows d e sieve (omega (arith, next.above)) h.sieve_is);
       following_is = λ t. absurd (unknown following'.known f t);
-      counted_is = λ t. absurd (unknown counted'.known o t);
+      tally_is = subst₂ (λ (cs ds : List ClassValue). IsTally cs ds tally') (sym p) (sym m)
+          (tally_grown plus minus g.plus g.minus tally mid tally' (omega (arith, next.above, growth.minus_norm))
+          (positive_norms (listed.rows ++ g.rows.rows) (with_class g.plus.norm g.plus.ids plus) (plus_after (value_of S k d b listed.rows (drop waited waiting.rows)) e limit g h.stage next small most growth plus h.plus_classes).each)
+          h.tally_is o (subst (λ (cs : List ClassValue). HasGained mid tally' cs g.minus) p q) r);
       ahead_is = λ t. absurd (unknown ahead'.known a t);
     }
 

@@ -30,3 +30,4 @@ pub mod Tables
 pub mod Opening
 pub mod Reaches
 pub mod MoreRows
+pub mod Tallies

@@ -22,7 +22,7 @@ abbrev no_class : ClassValue
 no_class = record { norm = 0; ids = [] }
 
 -- a sum with a class's norm is e exactly where the norm is what is left
-test_same : (a n e : ℕ) → 0 < n → eqb (a + n) e ≡ eqb n (e - a)
+pub test_same : (a n e : ℕ) → 0 < n → eqb (a + n) e ≡ eqb n (e - a)
 test_same a n e h = elim (cases_eq (a + n) e) [
   | inl same ↦ eq-eqb (a + n) e same ∙ sym (eq-eqb n (e - a) (omega (arith, same)))
   | inr other ↦ elim (eqb_tells (a + n) e) [

@@ -19,7 +19,9 @@ use Rattle.stage_store.specs.Rebuilt.{stage_of}
 use Rattle.stage_store.specs.declared.sieve.Sieve.{Sieve}
 use Rattle.stage_store.specs.declared.opened.Opened.{Opened}
 use Rattle.stage_store.specs.declared.stage.Following.{Following}
-use Rattle.stage_store.specs.declared.stage.Counted.{Counted}
+use Rattle.stage_store.specs.declared.tally.Tally.{Tally}
+use Rattle.stage_store.specs.Tallies.{IsInRange}
+use Rattle.stage_store.proofs.Tallies.{tally_empty}
 use Rattle.stage_store.proofs.Sifting.{new_sieve}
 use Rattle.stage_store.proofs.MoreRows.{unknown}
 
@@ -46,7 +48,7 @@ module _ (s : StageValue) (h : IsStage s) where
 
 -- ---- the fields of a stage of given lists, of which nothing is sifted or known yet
 module _ (S : ToolSystem) (k d used pairs : ℕ) (tree : TreeValue) (plus minus : List ClassValue)
-    (sieve : Sieve) (following : Following) (counted : Counted) (ahead : Opened) where
+    (sieve : Sieve) (following : Following) (tally : Tally) (ahead : Opened) where
   abbrev pub AreFields : PoolValue → PoolValue → Type 0
   AreFields listed waiting =
       Holds
@@ -58,7 +60,7 @@ module _ (S : ToolSystem) (k d used pairs : ℕ) (tree : TreeValue) (plus minus 
         listed = listed.rows;
         waiting = waiting.rows;
       })
-      listed tree waiting 0 used plus minus sieve following counted ahead
+      listed tree waiting 0 used plus minus sieve following tally ahead
 
   pub fields_hold : (listed waiting : PoolValue)
       → IsStage (stage_of S k d used listed.rows waiting.rows)
@@ -68,9 +70,9 @@ module _ (S : ToolSystem) (k d used pairs : ℕ) (tree : TreeValue) (plus minus 
       → AreClasses listed.rows has_positive_last plus
       → AreClasses listed.rows has_negative_last minus
       → AscendWithin plus → AscendWithin minus → IsNewSieve sieve
-      → following.known ≡ false → counted.known ≡ false → ahead.known ≡ false
+      → following.known ≡ false → IsInRange tally → tally.span ≡ 0 → ahead.known ≡ false
       → AreFields listed waiting
-  fields_hold listed waiting stage wide wait is enough rows p m i j v f o a = record {
+  fields_hold listed waiting stage wide wait is enough rows p m i j v f o z a = record {
     stage = subst IsStage (ap with_before (sym is)) stage;
     listed_width = wide;
     indexed = rows;
@@ -84,7 +86,7 @@ module _ (S : ToolSystem) (k d used pairs : ℕ) (tree : TreeValue) (plus minus 
     minus_ids = j;
     sieve_is = new_sieve S.equations listed.rows d sieve v;
     following_is = λ t. absurd (unknown following.known f t);
-    counted_is = λ t. absurd (unknown counted.known o t);
+    tally_is = tally_empty plus minus tally o z;
     ahead_is = λ t. absurd (unknown ahead.known a t);
   }
     where

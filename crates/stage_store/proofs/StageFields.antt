@@ -3,14 +3,14 @@ use Rattle.std.proofs.Common.{◌≡◌, ℕ, zero, suc, ◌+◌, ◌^◌, ◌�
 use Rattle.std.specs.Prelude.{ℤ, Option, Some, None, pos, ◌<ℤ◌, int_lt, MatchOption}
 use Rattle.std.specs.List.{Contains, AllByRecursion, flat_map, sum_by}
 use Rattle.std.specs.List.Sorted.{IsStrictlySortedBy}
-use Rattle.lift_core.specs.Stages.{stage_norm, has_positive_last, has_negative_last, norm_cmp, last, IsPair, Occurs, IsNextNorm, HasNoNextNorm}
+use Rattle.lift_core.specs.Stages.{stage_norm, has_positive_last, has_negative_last, norm_cmp, last, Occurs, IsNextNorm, HasNoNextNorm}
 use Rattle.int_vector.specs.Vectors.{largest, norm, lex_cmp}
 use Rattle.lift_core.proofs.Lists.{contains_cases, contains_head, contains_nothing, each_contained}
 use Rattle.lift_core.proofs.Orders.{in_filter, from_filter}
 use Rattle.stage_store.specs.Classes.{ClassValue, AreClasses, IsClass, IsPlace, row_at, rows_at, part_size, norm_at}
 use Rattle.stage_store.specs.Stage.{StageValue, IsStage, IsStageRow}
 use Rattle.stage_store.specs.Least.{IsLeast, IsLeastAbove, HasPairNorm, lesser_lem}
-use Rattle.stage_store.specs.Answers.{HasWaitingNorm}
+use Rattle.stage_store.specs.Answers.{HasWaitingNorm, HasStagePair}
 use Rattle.std.proofs.lemmas.List.Elements.{Contains-append_left, Contains-append_right, Contains-append_cases}
 use Rattle.std.proofs.lemmas.Bool.{cases_lt, cases_Bool}
 use Rattle.std.proofs.lemmas.Int.{ints}
@@ -80,10 +80,6 @@ class_row listed test cs k h l =
     let f : Contains listed r.0 × (test r.0 ≡ true) = from_filter test listed r.0 (subst (λ l. Contains l r.0) h.rows r.1) in
     (r.0, f.0, f.1, r.2)
 
--- the norms of the stage's pairs
-abbrev pub HasStagePair : List (List ℤ) → ℕ → Type 0
-HasStagePair listed n = (f : List ℤ) × (g : List ℤ) × IsPair listed f g × (stage_norm f + stage_norm g ≡ n)
-
 module _ (listed : List (List ℤ)) (plus minus : List ClassValue) (p : AreClasses listed has_positive_last plus) (m : AreClasses listed has_negative_last minus) where
   pair_of_classes : (n : ℕ) → HasPairNorm plus minus (length plus) n → HasStagePair listed n
   pair_of_classes n h =
@@ -97,13 +93,17 @@ module _ (listed : List (List ℤ)) (plus minus : List ClassValue) (p : AreClass
       let b : (k : ℕ) × (k < length minus) × (norm_at minus k ≡ stage_norm h.1) = passing_class listed has_negative_last minus h.1 m h.2.second_listed (less_is (last h.1) (pos 0) h.2.under) in
       record { one = a.0; two = b.0; before = a.1; inside_one = a.1; inside_two = b.1; norm_is = omega (arith, a.2, b.2, h.3) }
 
-  -- the next norm of the lists
-  pub next_of : (waiting : List (List ℤ)) (d : ℕ) (x y : Option ℕ) → IsLeastAbove (HasPairNorm plus minus (length plus)) d x → IsLeastAbove (HasWaitingNorm waiting) d y → IsLeastAbove (Occurs listed waiting) d (lesser_lem x y)
-  next_of waiting d x y h k =
-      least_same (λ n. HasStagePair listed n ⊎ HasWaitingNorm waiting n) (Occurs listed waiting) d (lesser_lem x y)
-      (λ n o. elim o [ inl a ↦ inr a | inr b ↦ inl b ])
-      (λ n o. elim o [ inl a ↦ inr a | inr b ↦ inl b ])
-      (least_both (HasStagePair listed) (HasWaitingNorm waiting) d x y (least_same (HasPairNorm plus minus (length plus)) (HasStagePair listed) d x pair_of_classes classes_of_pair h) k)
+  -- the least norm of the classes' pairs is that of the rows' pairs
+  pub least_of_classes : (d : ℕ) (x : Option ℕ) → IsLeastAbove (HasPairNorm plus minus (length plus)) d x → IsLeastAbove (HasStagePair listed) d x
+  least_of_classes d x h = least_same (HasPairNorm plus minus (length plus)) (HasStagePair listed) d x pair_of_classes classes_of_pair h
+
+-- the next norm of the lists
+pub next_of : (listed waiting : List (List ℤ)) (d : ℕ) (x y : Option ℕ) → IsLeastAbove (HasStagePair listed) d x → IsLeastAbove (HasWaitingNorm waiting) d y → IsLeastAbove (Occurs listed waiting) d (lesser_lem x y)
+next_of listed waiting d x y h k =
+    least_same (λ n. HasStagePair listed n ⊎ HasWaitingNorm waiting n) (Occurs listed waiting) d (lesser_lem x y)
+    (λ n o. elim o [ inl a ↦ inr a | inr b ↦ inl b ])
+    (λ n o. elim o [ inl a ↦ inr a | inr b ↦ inl b ])
+    (least_both (HasStagePair listed) (HasWaitingNorm waiting) d x y h k)
 
 pub norms_within : (listed : List (List ℤ)) (test : List ℤ → Bool) (cs : List ClassValue) (d : ℕ) → AreClasses listed test cs → AllByRecursion (λ z. stage_norm z ≤ d) listed → (k : ℕ) → k < length cs → norm_at cs k ≤ d
 norms_within listed test cs d h all k l =
@@ -155,6 +155,5 @@ waits_answer s row r w h some is n answer =
     let small : norm (take w row) ≤ largest = subst (λ m. m ≤ largest) (sym k) (each_at (IsStageRow s.system.equations s.number) s.waiting 0 [] h.waiting_rows some).small in
     subst (λ (o : Option ℕ). IsLeastAbove (HasWaitingNorm s.waiting) s.norm o) (sym (some_norm r (norm (take w row)) answer small ∙ ap Some k)) (first_waits s.waiting s.norm h.waiting_ascending h.waiting_norms some)
 
-pub next_together : (s : StageValue) (plus minus : List ClassValue) (x y r : Option ℕ) → AreClasses s.listed has_positive_last plus → AreClasses s.listed has_negative_last minus
-    → IsLeastAbove (HasPairNorm plus minus (length plus)) s.norm x → IsLeastAbove (HasWaitingNorm s.waiting) s.norm y → r ≡ lesser_lem x y → IsLeastAbove (Occurs s.listed s.waiting) s.norm r
-next_together s plus minus x y r p m h k e = subst (λ (o : Option ℕ). IsLeastAbove (Occurs s.listed s.waiting) s.norm o) (sym e) (next_of s.listed plus minus p m s.waiting s.norm x y h k)
+pub next_together : (s : StageValue) (x y r : Option ℕ) → IsLeastAbove (HasStagePair s.listed) s.norm x → IsLeastAbove (HasWaitingNorm s.waiting) s.norm y → r ≡ lesser_lem x y → IsLeastAbove (Occurs s.listed s.waiting) s.norm r
+next_together s x y r h k e = subst (λ (o : Option ℕ). IsLeastAbove (Occurs s.listed s.waiting) s.norm o) (sym e) (next_of s.listed s.waiting s.norm x y h k)

@@ -31,7 +31,9 @@ use Rattle.std.specs.Prelude.{false}
 use Rattle.stage_store.specs.declared.opened.Opened.{Opened}
 use Rattle.stage_store.proofs.MoreRows.{unknown}
 use Rattle.stage_store.specs.declared.stage.Following.{Following}
-use Rattle.stage_store.specs.declared.stage.Counted.{Counted}
+use Rattle.stage_store.specs.declared.tally.Tally.{Tally}
+use Rattle.stage_store.specs.Tallies.{IsInRange}
+use Rattle.stage_store.proofs.Tallies.{tally_empty}
 use Rattle.stage_store.proofs.Sifting.{new_sieve}
 use Rattle.stage_store.specs.Lifted.{AreExtended, IsStart, StartsAt, StartsOr, IsFirst, IsLift, IsLiftedDefined}
 use Rattle.stage_store.specs.declared.stage.Lifted.{Lifted}
@@ -86,12 +88,12 @@ module _ (S : ToolSystem) (k : ℕ) (solutions : List (List ℤ)) (solve : AllBy
     waiting_length = omega (arith, length-map solutions (extend (row S.equations k)), count);
   }
 
-pub start_holds : (S : ToolSystem) (k used : ℕ) (solutions : List (List ℤ)) (listed : PoolValue) (tree : TreeValue) (waiting : PoolValue) (plus minus : List ClassValue) (sieve : Sieve) (following : Following) (counted : Counted) (ahead : Opened)
+pub start_holds : (S : ToolSystem) (k used : ℕ) (solutions : List (List ℤ)) (listed : PoolValue) (tree : TreeValue) (waiting : PoolValue) (plus minus : List ClassValue) (sieve : Sieve) (following : Following) (tally : Tally) (ahead : Opened)
     → AllByRecursion (Solves S.equations (k - 1)) solutions → AllByRecursion (λ v. 0 < norm v) solutions → AllByRecursion (λ v. norm v ≤ largest) solutions
     → IsToolSystem S → 0 < k → k ≤ length S.equations.rows → used ≤ 2 ^ 62 + k * 2 ^ 42 → IsStrictlySortedBy solution_cmp solutions → length solutions ≤ 2 ^ 21
-    → listed.width ≡ width S.equations + 1 → listed.rows ≡ [] → tree.width ≡ width S.equations + 1 → tree.filed ≡ [] → AreExtended S k solutions waiting → plus ≡ [] → minus ≡ [] → IsNewSieve sieve → following.known ≡ false → counted.known ≡ false → ahead.known ≡ false
-    → Holds (value_of S k 0 used listed.rows waiting.rows) listed tree waiting 0 used plus minus sieve following counted ahead
-start_holds S k used solutions listed tree waiting plus minus sieve following counted ahead solve positive small kept from to most order count w nothing tw none e p m v f o a =
+    → listed.width ≡ width S.equations + 1 → listed.rows ≡ [] → tree.width ≡ width S.equations + 1 → tree.filed ≡ [] → AreExtended S k solutions waiting → plus ≡ [] → minus ≡ [] → IsNewSieve sieve → following.known ≡ false → IsInRange tally → tally.span ≡ 0 → ahead.known ≡ false
+    → Holds (value_of S k 0 used listed.rows waiting.rows) listed tree waiting 0 used plus minus sieve following tally ahead
+start_holds S k used solutions listed tree waiting plus minus sieve following tally ahead solve positive small kept from to most order count w nothing tw none e p m v f o z a =
     let is : value_of S k 0 used [] (map (extend (row S.equations k)) solutions) ≡ value_of S k 0 used listed.rows waiting.rows = ap₂ (λ (l r : List (List ℤ)). value_of S k 0 used l r) (sym nothing) (sym e.rows_are) in
     record {
       stage = subst (λ (v : StageValue). IsStage v) is (start_is_stage S k solutions solve positive small used kept from to most order count);
@@ -107,7 +109,7 @@ start_holds S k used solutions listed tree waiting plus minus sieve following co
       minus_ids = subst AscendWithin (sym m) tt;
       sieve_is = new_sieve S.equations listed.rows 0 sieve v;
       following_is = λ t. absurd (unknown following.known f t);
-      counted_is = λ t. absurd (unknown counted.known o t);
+      tally_is = tally_empty plus minus tally o z;
       ahead_is = λ t. absurd (unknown ahead.known a t);
     }
 

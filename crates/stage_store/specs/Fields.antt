@@ -4,7 +4,7 @@ use Rattle.lift_core.specs.ToolSystems.{width}
 use Rattle.lift_core.specs.Stages.{has_positive_last, has_negative_last}
 use Rattle.row_pool.specs.Rows.{PoolValue}
 use Rattle.reduce_tree.specs.Tree.{TreeValue}
-use Rattle.stage_store.specs.Classes.{ClassValue, AreClasses, pairs_of}
+use Rattle.stage_store.specs.Classes.{ClassValue, AreClasses}
 use Rattle.stage_store.specs.Indexed.{HoldsRows}
 use Rattle.stage_store.specs.Stage.{StageValue, IsStage, used_of}
 use Rattle.stage_store.specs.Sieve.{IsSieve}
@@ -12,11 +12,13 @@ use Rattle.stage_store.specs.Opened.{AscendWithin, IsAhead}
 use Rattle.stage_store.specs.declared.sieve.Sieve.{Sieve}
 use Rattle.stage_store.specs.declared.opened.Opened.{Opened}
 use Rattle.stage_store.specs.declared.stage.Following.{Following}
-use Rattle.stage_store.specs.declared.stage.Counted.{Counted}
+use Rattle.stage_store.specs.declared.tally.Tally.{Tally}
+use Rattle.stage_store.specs.Tallies.{IsTally}
 use Rattle.stage_store.specs.Answers.{IsNext}
 
 -- the rows that wait are those from the place `waited` on
-pub record Holds (s : StageValue) (listed : PoolValue) (tree : TreeValue) (waiting : PoolValue) (waited used : ℕ) (plus minus : List ClassValue) (sieve : Sieve) (following : Following) (counted : Counted) (ahead : Opened) : Type 0 where
+pub record Holds (s : StageValue) (listed : PoolValue) (tree : TreeValue) (waiting : PoolValue) (waited used : ℕ)
+    (plus minus : List ClassValue) (sieve : Sieve) (following : Following) (tally : Tally) (ahead : Opened) : Type 0 where
   pub stage : IsStage s
   pub listed_width : listed.width ≡ width s.system.equations + 1
   pub indexed : HoldsRows tree listed
@@ -30,5 +32,5 @@ pub record Holds (s : StageValue) (listed : PoolValue) (tree : TreeValue) (waiti
   pub minus_ids : AscendWithin minus
   pub sieve_is : IsSieve s.system.equations s.listed s.norm sieve
   pub following_is : IsTrue following.known → IsNext s following.next
-  pub counted_is : IsTrue counted.known → counted.pairs ≡ length (pairs_of s.listed counted.norm)
+  pub tally_is : IsTally plus minus tally
   pub ahead_is : IsAhead s ahead

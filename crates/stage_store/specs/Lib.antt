@@ -27,4 +27,5 @@ pub mod Lines
 pub mod Levels
 pub mod Sieve
 pub mod Opened
+pub mod Tallies
 pub mod Fields

@@ -15,6 +15,7 @@ mod reach;
 mod rebuilding;
 mod sieve;
 mod stage;
+mod tally;
 
 pub use counting::pairs_within;
 pub use numbered::Hints;

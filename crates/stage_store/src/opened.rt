@@ -1,6 +1,6 @@
 //! The pairs of a norm that may have an irreducible sum, by their numbers.
 
-ghost use Rattle.std.specs.Prelude.{◌≡◌, ◌+◌, ◌-◌, ◌*◌, ◌%◌, ◌<◌, ◌≤◌, ◌^◌, ℕ, [], List, length, take, slice_index_or, MatchOption, IfOk, OnOk, IsFalse};
+ghost use Rattle.std.specs.Prelude.{◌≡◌, ◌+◌, ◌-◌, ◌*◌, ◌%◌, ◌<◌, ◌≤◌, ◌^◌, ℕ, [], List, length, take, slice_index_or, MatchOption, IfOk, OnOk, IsFalse, false};
 ghost use Rattle.stage_store.specs.declared.sieve.KeptPair.{KeptPair};
 ghost use Rattle.std.specs.List.{Contains, AllByRecursion, sum_by};
 ghost use Rattle.std.specs.List.Sorted.{IsStrictlySortedBy, IsNonDecreasingBy};
@@ -28,6 +28,19 @@ pub struct Opened {
     pub known: bool,
     pub norm: u64,
     pub pairs: Vec<OpenPair>,
+}
+
+impl Opened {
+    /// They are not known yet.
+    pub fn unknown(alloc: Global) -> Opened
+        ensures { result.known ≡ false }
+    {
+        Opened {
+            known: false,
+            norm: 0,
+            pairs: Vec::new(alloc),
+        }
+    }
 }
 
 /// The place of a number among ascending ones.

@@ -1,6 +1,6 @@
 //! The stage, what it is seen as, and the calls that take it from norm to norm and to the next stage.
 
-ghost use Rattle.std.specs.Prelude.{◌≡◌, ◌↔◌, ◌+◌, ◌-◌, ◌*◌, ◌<◌, ◌≤◌, ◌^◌, ℕ, ℤ, List, [], length, slice_index_or, All, MatchOption, IsTrue, ◌+ℤ◌, nat_abs, IfOk, OnOk};
+ghost use Rattle.std.specs.Prelude.{◌≡◌, ◌↔◌, ◌+◌, ◌-◌, ◌*◌, ◌<◌, ◌≤◌, ◌^◌, ℕ, ℤ, List, [], length, slice_index_or, All, MatchOption, IsTrue, IsFalse, false, ◌+ℤ◌, nat_abs, IfOk, OnOk};
 ghost use Rattle.std.specs.List.{AllZip, AllByRecursion};
 ghost use Rattle.std.specs.List.Sorted.{IsStrictlySortedBy};
 ghost use Rattle.int_vector.specs.Vectors.{◌⊑◌, norm};
@@ -17,7 +17,7 @@ ghost use Rattle.stage_store.specs.Stage.{StageValue, IsStage, IsDefined, used_o
 ghost use Rattle.stage_store.specs.Classes.{pairs_of, IsPairAt};
 ghost use Rattle.stage_store.specs.Numbered.{GainsNumbered};
 ghost use Rattle.stage_store.specs.Least.{IsLeastAbove};
-ghost use Rattle.stage_store.specs.Answers.{IsNext, HasWaitingNorm};
+ghost use Rattle.stage_store.specs.Answers.{IsNext, HasWaitingNorm, HasStagePair};
 ghost use Rattle.stage_store.specs.Lifted.{StartsOr, IsFirst, IsLift, IsLiftedDefined};
 ghost use Rattle.stage_store.specs.Rebuilt.{stage_of};
 ghost use Rattle.stage_store.specs.Sound.{IsSound};
@@ -32,6 +32,7 @@ use crate::opened::{Opened, open_norm};
 use crate::order::in_order;
 use crate::rebuilding::{classes_of, tree_of};
 use crate::sieve::Sieve;
+use crate::tally::Tally;
 use int_vector::{Visits, add_into, conformal, norm};
 use lift_core::{IntRow, System};
 use reduce_tree::Tree;
@@ -126,12 +127,16 @@ struct Following {
     next: Option<Next>,
 }
 
-/// The number of pairs of a norm, once it is known.
-#[derive(Clone, Copy, Drop)]
-struct Counted {
-    known: bool,
-    norm: u64,
-    pairs: u64,
+impl Following {
+    /// It is not known yet.
+    fn unknown() -> Following
+        ensures { result.known ≡ false }
+    {
+        Following {
+            known: false,
+            next: None,
+        }
+    }
 }
 
 /// A stage of the lifting at a norm.
@@ -151,7 +156,7 @@ pub struct Stage {
     minus: Vec<Class>,
     sieve: Sieve,
     following: Following,
-    counted: Counted,
+    tally: Tally,
     ahead: Opened,
 }
 
@@ -164,7 +169,7 @@ impl Model for Stage {
 
     ghost view = { λ s. record { system = s.system; number = s.number; norm = s.norm; before = s.before; listed = s.listed.rows; waiting = drop s.waited s.waiting.rows } };
 
-    ghost invariant = { λ s. Holds (record { system = s.system; number = s.number; norm = s.norm; before = s.before; listed = s.listed.rows; waiting = drop s.waited s.waiting.rows }) s.listed s.tree s.waiting s.waited s.used s.plus.items s.minus.items s.sieve s.following s.counted s.ahead };
+    ghost invariant = { λ s. Holds (record { system = s.system; number = s.number; norm = s.norm; before = s.before; listed = s.listed.rows; waiting = drop s.waited s.waiting.rows }) s.listed s.tree s.waiting s.waited s.used s.plus.items s.minus.items s.sieve s.following s.tally s.ahead };
 }
 
 impl Stage {
@@ -226,20 +231,9 @@ impl Stage {
             plus: Vec::new(alloc),
             minus: Vec::new(alloc),
             sieve: Sieve::new(alloc)?,
-            following: Following {
-                known: false,
-                next: None,
-            },
-            counted: Counted {
-                known: false,
-                norm: 0,
-                pairs: 0,
-            },
-            ahead: Opened {
-                known: false,
-                norm: 0,
-                pairs: Vec::new(alloc),
-            },
+            following: Following::unknown(),
+            tally: Tally::new(alloc)?,
+            ahead: Opened::unknown(alloc),
         };
         stage.prepare()?;
         Ok(Lifted::Next(stage))
@@ -279,20 +273,9 @@ impl Stage {
             waiting,
             waited: 0,
             sieve: Sieve::new(alloc)?,
-            following: Following {
-                known: false,
-                next: None,
-            },
-            counted: Counted {
-                known: false,
-                norm: 0,
-                pairs: 0,
-            },
-            ahead: Opened {
-                known: false,
-                norm: 0,
-                pairs: Vec::new(alloc),
-            },
+            following: Following::unknown(),
+            tally: Tally::new(alloc)?,
+            ahead: Opened::unknown(alloc),
         };
         stage.prepare()?;
         Ok(stage)
@@ -398,10 +381,10 @@ impl Stage {
         ensures number { result ≡ length (pairs_of self.now.listed norm) }
         ensures most { result ≤ 2 ^ 42 }
     {
-        if self.counted.known && self.counted.norm == norm {
-            return self.counted.pairs;
+        match self.tally.pairs(norm) {
+            Some(pairs) => pairs,
+            None => self.count_at(norm),
         }
-        self.count_at(norm)
     }
 
     /// About how many pairs of a norm `gather` looks at: fewer than it has, once the norm is open. No clause rests on it.
@@ -452,11 +435,21 @@ impl Stage {
         self.least_norm()
     }
 
-    /// The same, looked for in the classes.
+    /// The least norm above the stage's of a pair: the next one of those that are counted, or looked for in the classes.
+    fn least_pair(&self) -> Option<u64>
+        ensures { IsLeastAbove (HasStagePair self.now.listed) self.now.norm result }
+    {
+        match self.tally.next_above(self.norm) {
+            Some(norm) => Some(norm),
+            None => pair_norm_above(&self.plus, &self.minus, self.norm),
+        }
+    }
+
+    /// The same as `next_norm`, found anew.
     fn least_norm(&self) -> Option<Next>
         ensures { IsNext self.now result }
     {
-        let pairs = pair_norm_above(&self.plus, &self.minus, self.norm);
+        let pairs = self.least_pair();
         let waits = self.first_waiting();
         match lesser(pairs, waits) {
             None => None,
@@ -481,6 +474,7 @@ impl Stage {
         requires norm { stage_norm (slice_index_or self.now.listed f.0 []) + stage_norm (slice_index_or self.now.listed g.0 []) ≤ 9223372036854775807 }
         requires out { length out.old ≡ width self.now.system.equations + 1 }
         ensures length { length out.new ≡ length out.old }
+        ensures kept { IsFalse result → out.new ≡ out.old }
         ensures sum { IsTrue result ↔ HasSum self.now.system.equations (slice_index_or self.now.listed f.0 []) (slice_index_or self.now.listed g.0 []) }
         ensures is { IsTrue result → out.new ≡ add (slice_index_or self.now.listed f.0 []) (slice_index_or self.now.listed g.0 []) }
         ensures range { IsTrue result → All InRange out.new }
@@ -588,13 +582,14 @@ impl Stage {
         let room = growth.rows.len();
         make_room(&mut self.listed, &mut self.plus, &mut self.minus, room)?;
         list_rows(&mut self.listed, &mut self.tree, &growth.rows)?;
+        self.tally.add(&self.minus, &growth.plus);
         add_class(&mut self.plus, growth.plus);
+        self.tally.add(&self.plus, &growth.minus);
         add_class(&mut self.minus, growth.minus);
         self.waited += growth.taken;
         self.used += growth.pairs;
         self.norm = closed.norm;
         self.following.known = false;
-        self.counted.known = false;
         self.ahead.known = false;
         // Where memory is refused here, the norm is closed all the same: its pairs are sifted with those of the next.
         let _ = self.prepare();
@@ -613,19 +608,24 @@ impl Stage {
         }
     }
 
-    /// Notes the next norm and the number of its pairs.
+    /// Notes the next norm, and counts its pairs.
     fn look_ahead(&mut self)
         ensures { self.new ≡ self.old }
     {
         let next = self.least_norm();
         self.following = Following { known: true, next };
         if let Some(Next::Norm(norm)) = next {
-            let pairs = self.count_at(norm);
-            self.counted = Counted {
-                known: true,
-                norm,
-                pairs,
-            };
+            self.count_from(norm);
+        }
+    }
+
+    /// Counts the pairs of a norm and of those after it, unless its pairs are counted.
+    fn count_from(&mut self, norm: u64)
+        requires { norm ≤ 9223372036854775807 }
+        ensures { self.new ≡ self.old }
+    {
+        if self.tally.pairs(norm).is_none() {
+            self.tally.restart(&self.plus, &self.minus, norm);
         }
     }
 

@@ -39,7 +39,7 @@ invariant_of-self c =
       minus_ids = i.minus_ids;
       sieve_is = i.sieve_is;
       following_is = i.following_is;
-      counted_is = i.counted_is;
+      tally_is = i.tally_is;
       ahead_is = λ t. subst (λ (n : ℕ). IsOpen (value_of c.self.inside.system c.self.inside.number c.self.inside.norm c.self.inside.before c.self.inside.listed.rows (drop c.self.inside.waited c.self.inside.waiting.rows)) n c.in_ok-opened.opened.pairs.items) (sym c.in_ok-opened.ensures.norm)
           (opened_is_open (value_of c.self.inside.system c.self.inside.number c.self.inside.norm c.self.inside.before c.self.inside.listed.rows (drop c.self.inside.waited c.self.inside.waiting.rows)) c.self.inside.plus.items c.self.inside.minus.items c.args.e
           i.plus_classes i.minus_classes c.self.inside.sieve c.pairs.result.now c.in_ok-opened.opened.pairs.items i.stage i.sieve_is rows above here a c.in_ok-opened.ensures.ascending);

@@ -1,8 +1,4 @@
-use Rattle.std.proofs.Common.{refl, sym, subst₂, false}
-use Rattle.std.specs.Prelude.{None}
-use Rattle.stage_store.specs.declared.opened.Opened.{Opened}
-use Rattle.stage_store.specs.declared.stage.Following.{Following}
-use Rattle.stage_store.specs.declared.stage.Counted.{Counted}
+use Rattle.std.proofs.Common.{sym, subst₂}
 use Rattle.stage_store.proofs.Rebuilt.{AreFields, fields_hold}
 use Rattle.stage_store.proofs.stage.Stage.rebuild.Goals as goal
 
@@ -14,15 +10,13 @@ invariant_of-stage-3 c =
     let plus = c.in_ok-classes_of in
     let minus = c.in_ok-classes_of-2 in
     let sieve = c.in_ok-new.field-0 in
-    let f : Following = record { known = false; next = None } in
-    let n : Counted = record { known = false; norm = 0; pairs = 0 } in
-    let a : Opened = record { known = false; norm = 0; pairs = c.new-2.result } in
+    let tally = c.in_ok-new-2 in
     subst₂
     (AreFields c.args.system c.args.number c.args.norm c.args.used pairs tree
-    plus.field-0.items minus.field-0.items sieve f n a)
+    plus.field-0.items minus.field-0.items sieve c.unknown.result tally.field-0 c.unknown-2.result)
     (sym c.listed.view_is) (sym c.waiting.view_is)
     (fields_hold c.args.system c.args.number c.args.norm c.args.used pairs tree
-    plus.field-0.items minus.field-0.items sieve f n a c.args.listed c.args.waiting r.kept
+    plus.field-0.items minus.field-0.items sieve c.unknown.result tally.field-0 c.unknown-2.result c.args.listed c.args.waiting r.kept
     r.listed_width r.waiting_width c.pairs_within.ensures r.enough c.in_ok-tree_of.ensures
     plus.ensures.classes minus.ensures.classes plus.ensures.ids minus.ensures.ids
-    c.in_ok-new.ensures refl refl refl)
+    c.in_ok-new.ensures c.unknown.ensures tally.ensures.range tally.ensures.empty c.unknown-2.ensures)
