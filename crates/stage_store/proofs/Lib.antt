@@ -25,6 +25,7 @@ pub mod CountedPairs
 pub mod ClassesByNorm
 pub mod Rebuilt
 pub mod Sound
+pub mod Keeping
 pub mod Sifting
 pub mod Tables
 pub mod Opening

@@ -14,7 +14,9 @@ use Rattle.stage_store.specs.Classes.{ClassValue, row_at, places, with_class}
 use Rattle.stage_store.specs.Levels.{BarsLine, ReachesLine, is_plus}
 use Rattle.stage_store.proofs.Levels.{bars_stay}
 use Rattle.stage_store.specs.Found.{IsSumOf}
-use Rattle.stage_store.specs.Sieve.{IsKept, HasNoNewSum, IsGroup, IsTable, AreSifted, IsSieveTo, IsSieve, pair_by}
+use Rattle.stage_store.specs.Shelves.{IsKept}
+use Rattle.stage_store.specs.declared.shelves.Shelves.{Shelves}
+use Rattle.stage_store.specs.Sieve.{HasNoNewSum, IsGroup, IsTable, AreSifted, IsSieveTo, IsSieve, pair_by}
 use Rattle.stage_store.specs.Reaches.{IsReachOr}
 use Rattle.std.proofs.Common.{◌/◌, ◌%◌}
 use Rattle.stage_store.specs.Opened.{AreAscending, AscendWithin}
@@ -93,12 +95,12 @@ none_stays S listed new i j il jl h = λ z s.
     let t : IsSumOf S (listed ++ new) (row_at listed i) (row_at listed j) z = subst (λ (f : List ℤ). IsSumOf S (listed ++ new) f (row_at listed j) z) a (subst (λ (g : List ℤ). IsSumOf S (listed ++ new) (row_at (listed ++ new) i) g z) b s) in
     h z (record { sum = t.sum; is = t.is; irreducible = λ u c w. t.irreducible u (Contains-append_left listed new u c) w })
 
-sifted_stays_on : (S : LinearSystem) (listed new : List (List ℤ)) (d e n : ℕ) (shelves : List (List KeptPair)) → d ≤ e → n ≤ length listed → AreSifted S listed d n shelves → AreSifted S (listed ++ new) e n shelves
-sifted_stays_on S listed new d e n shelves up within h = λ i j il jl p m above.
+sifted_stays_on : (S : LinearSystem) (listed new : List (List ℤ)) (n : ℕ) (shelves : Shelves) → n ≤ length listed → AreSifted S listed n shelves → AreSifted S (listed ++ new) n shelves
+sifted_stays_on S listed new n shelves within h = λ i j il jl p m.
     let a : row_at (listed ++ new) i ≡ row_at listed i = row_stays listed new i (omega (arith, il, within)) in
     let b : row_at (listed ++ new) j ≡ row_at listed j = row_stays listed new j (omega (arith, jl, within)) in
     let norms : stage_norm (row_at (listed ++ new) i) + stage_norm (row_at (listed ++ new) j) ≡ stage_norm (row_at listed i) + stage_norm (row_at listed j) = ap₂ (λ x y. x + y) (ap stage_norm a) (ap stage_norm b) in
-    elim (h i j il jl (ap has_positive_last (sym a) ∙ p) (ap has_negative_last (sym b) ∙ m) (omega (arith, norms, above, up))) [
+    elim (h i j il jl (ap has_positive_last (sym a) ∙ p) (ap has_negative_last (sym b) ∙ m)) [
       | inl k ↦ inl (subst (λ x. IsKept shelves (pair_by true x i j)) (sym norms) k)
       | inr none ↦ inr (none_stays S listed new i j (omega (arith, il, within)) (omega (arith, jl, within)) none)
     ]
@@ -112,9 +114,10 @@ sieve_after S listed new d e v up h =
         plus_table = table_stays S listed new has_positive_last v.rows v.plus h.within u.plus_table;
         minus_table = table_stays S listed new has_negative_last v.rows v.minus h.within u.minus_table;
         shelves_are = u.shelves_are;
+        closed = omega (arith, u.closed, up);
         reach_count = u.reach_count;
         reaches_are = λ k l. subst (λ (row : List ℤ). IsReachOr (listed ++ new) row (get_or v.reaches.items k 0)) (sym (row_stays listed new k (omega (arith, l, u.reach_count, h.within)))) (reach_stays listed new (row_at listed k) (get_or v.reaches.items k 0) (u.reaches_are k l));
-        sifted = sifted_stays_on S listed new d e v.rows v.shelves.items up h.within u.sifted;
+        sifted = sifted_stays_on S listed new v.rows v.shelves h.within u.sifted;
       };
     }
 

@@ -32,7 +32,8 @@ use Rattle.lift_core.proofs.Orders.{in_map}
 use Rattle.stage_store.specs.Classes.{IsPairAt, pairs_of}
 use Rattle.stage_store.specs.Found.{IsSumOf}
 use Rattle.stage_store.specs.Stage.{StageValue, IsStage}
-use Rattle.stage_store.specs.Sieve.{IsKept, IsSieve, pair_by}
+use Rattle.stage_store.specs.Shelves.{IsKept}
+use Rattle.stage_store.specs.Sieve.{IsSieve, pair_by}
 use Rattle.stage_store.specs.declared.sieve.Sieve.{Sieve}
 use Rattle.stage_store.proofs.Pairs.{rows_two, pairs_is, pairs_count, pair_found}
 use Rattle.stage_store.proofs.Numbering.{numbered, stand_once}
@@ -213,11 +214,11 @@ module _ (s : StageValue) (plus minus : List ClassValue) (e : ℕ) (p : AreClass
   found_at : (i j n : ℕ) → IsNumberOf plus minus e i j n → (n < length (pairs_of s.listed e)) × IsPairAt s.listed e n i j
   found_at i j n h = let inside : n < length (pairs_of s.listed e) = omega (arith, h.inside, as_many) in (inside, pair_found s.listed plus minus e n (i, j) p m inside (sym h.places))
 
-  module _ (v : Sieve) (shelf : List KeptPair) (opens : List OpenPair) (h : IsStage s) (sieve : IsSieve s.system.equations s.listed s.norm v) (rows : v.rows ≡ length s.listed) (above : s.norm < e) (here : shelf ≡ get_or v.shelves.items (e % 256) []) (opened : AreOpened plus minus e shelf opens) where
+  module _ (v : Sieve) (shelf : List KeptPair) (opens : List OpenPair) (h : IsStage s) (sieve : IsSieve s.system.equations s.listed s.norm v) (rows : v.rows ≡ length s.listed) (above : s.norm < e) (near : e < v.shelves.horizon) (here : shelf ≡ get_or v.shelves.shelves.items (e % 256) []) (opened : AreOpened plus minus e shelf opens) where
     kept_number : (n i j : ℕ) → IsPairAt s.listed e n i j → n < length (pairs_of s.listed e) → stage_norm (row_at s.listed i) + stage_norm (row_at s.listed j) ≡ e → Contains {X = ℕ × ℕ} (ids_of plus minus e) (i, j)
-        → IsKept v.shelves.items (pair_by true (stage_norm (row_at s.listed i) + stage_norm (row_at s.listed j)) i j) → (x : OpenPair) × Contains opens x × (x.number ≡ n)
+        → IsKept v.shelves (pair_by true (stage_norm (row_at s.listed i) + stage_norm (row_at s.listed j)) i j) → (x : OpenPair) × Contains opens x × (x.number ≡ n)
     kept_number n i j at inside norms c k =
-        let on_shelf : Contains shelf (record { norm = e; first = i; second = j }) = subst (λ l. Contains l (record { norm = e; first = i; second = j })) (sym here) (subst (λ d. Contains (get_or v.shelves.items (d % 256) []) (record { norm = d; first = i; second = j })) norms k) in
+        let on_shelf : Contains shelf (record { norm = e; first = i; second = j }) = subst (λ l. Contains l (record { norm = e; first = i; second = j })) (sym here) (subst (λ d. Contains (get_or v.shelves.shelves.items (d % 256) []) (record { norm = d; first = i; second = j })) norms (k (omega (arith, norms, above, sieve.upto.closed)) (omega (arith, norms, near)))) in
         let a = opened.whole (record { norm = e; first = i; second = j }) on_shelf refl c in
         let f = found_at a.pair.first a.pair.second a.pair.number (opened.sound a.pair a.among) in
         let same : get_or (pairs_of s.listed e) a.pair.number ([], []) ≡ get_or (pairs_of s.listed e) n ([], []) = f.1.pair ∙ ap₂ (λ (x y : ℕ). rows_two s.listed (x, y)) a.first_is a.second_is ∙ sym at.pair in
@@ -233,7 +234,7 @@ module _ (s : StageValue) (plus minus : List ClassValue) (e : ℕ) (p : AreClass
           let at : IsPairAt s.listed e n (get_or (ids_of plus minus e) n (0, 0)).0 (get_or (ids_of plus minus e) n (0, 0)).1 = pair_found s.listed plus minus e n (get_or (ids_of plus minus e) n (0, 0)) p m inside refl in
           let w = pair_of_places (get_or (ids_of plus minus e) n (0, 0)) c in
           let t : IsSumOf s.system.equations s.listed (row_at s.listed (get_or (ids_of plus minus e) n (0, 0)).0) (row_at s.listed (get_or (ids_of plus minus e) n (0, 0)).1) z = subst (λ (y : List ℤ × List ℤ). IsSumOf s.system.equations s.listed y.0 y.1 z) at.pair sum in
-          elim (sieve.upto.sifted (get_or (ids_of plus minus e) n (0, 0)).0 (get_or (ids_of plus minus e) n (0, 0)).1 (omega (arith, at.one, rows)) (omega (arith, at.two, rows)) (less_is (pos 0) (last (row_at s.listed (get_or (ids_of plus minus e) n (0, 0)).0)) w.0.above) (less_is (last (row_at s.listed (get_or (ids_of plus minus e) n (0, 0)).1)) (pos 0) w.0.under) (omega (arith, w.1, above))) [
+          elim (sieve.upto.sifted (get_or (ids_of plus minus e) n (0, 0)).0 (get_or (ids_of plus minus e) n (0, 0)).1 (omega (arith, at.one, rows)) (omega (arith, at.two, rows)) (less_is (pos 0) (last (row_at s.listed (get_or (ids_of plus minus e) n (0, 0)).0)) w.0.above) (less_is (last (row_at s.listed (get_or (ids_of plus minus e) n (0, 0)).1)) (pos 0) w.0.under)) [
             | inl k ↦ kept_number n (get_or (ids_of plus minus e) n (0, 0)).0 (get_or (ids_of plus minus e) n (0, 0)).1 at inside w.1 c k
             | inr none ↦ absurd (none z t)
           ];

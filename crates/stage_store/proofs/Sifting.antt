@@ -1,5 +1,5 @@
 -- The sieve: a pair that is kept stays kept, and a pair that is passed over has no irreducible sum.
-use Rattle.std.proofs.Common.{◌≡◌, ℕ, ◌+◌, ◌-◌, ◌*◌, ◌≤◌, ◌<◌, List, [], length, get_or, take, drop, ap, sym, ◌∙◌, subst, arith, inl, inr, Bool, true, false}
+use Rattle.std.proofs.Common.{◌≡◌, ℕ, ◌+◌, ◌-◌, ◌*◌, ◌≤◌, ◌<◌, List, [], length, get_or, take, drop, ap, sym, ◌∙◌, subst, arith, inl, inr, refl, Bool, true, false}
 use Rattle.std.proofs.Common.{min, length-drop, get_or-drop, get_or-take, subst₂}
 use Rattle.std.specs.Prelude.{ℤ}
 use Rattle.std.specs.Int.{bit_at}
@@ -15,19 +15,25 @@ use Rattle.lift_core.specs.ToolSystems.{width}
 use Rattle.stage_store.specs.Levels.{MakesNone}
 use Rattle.stage_store.specs.Classes.{row_at, places}
 use Rattle.stage_store.specs.declared.sieve.Sieve.{Sieve}
-use Rattle.stage_store.specs.Sieve.{AreSifted, IsTable, IsSieveTo, IsSieve, IsNewSieve, IsKept, Stay, HasNoNewSumBy, IsSiftedBy, AreSiftedBy, AreWide, IsGroup, IsSized, IsDead, AreAsked, pair_by}
+use Rattle.stage_store.specs.declared.sieve.Table.{Table}
+use Rattle.stage_store.specs.declared.sieve.KeptPair.{KeptPair}
+use Rattle.stage_store.specs.Sieve.{AreSifted, IsTable, IsSieveTo, IsSieve, IsNewSieve, HasNoNewSumBy, IsSiftedBy, AreSiftedBy, AreWide, IsGroup, IsSized, IsDead, AreAsked, pair_by}
 use Rattle.stage_store.proofs.Tables.{has_place, no_table, table_less}
 use Rattle.std.specs.Prelude.{Result, Ok, Err, OnOk}
 use Rattle.stage_store.specs.Reaches.{AreReaches}
 use Rattle.stage_store.proofs.Classes.{each_at}
-use Rattle.stage_store.specs.declared.sieve.KeptPair.{KeptPair}
+use Rattle.stage_store.specs.declared.shelves.Shelves.{Shelves}
+use Rattle.stage_store.specs.Shelves.{IsKept, Stay}
 
-pub stay_through : (a b c : List (List KeptPair)) → Stay a b → Stay b c → Stay a c
-stay_through a b c h k = λ p x. k p (h p x)
+pub stay_through : (a b c : Shelves) → Stay a b → Stay b c → Stay a c
+stay_through a b c h k = record { same_closed = k.same_closed ∙ h.same_closed; kept = λ p x. k.kept p (h.kept p x); }
+
+pub stay_as : (a : Shelves) → Stay a a
+stay_as a = record { same_closed = refl; kept = λ p x. x; }
 
 module _ (positive : Bool) (S : LinearSystem) (listed : List (List ℤ)) where
-  pub sifted_stays : (old new : List (List KeptPair)) (i j : ℕ) → Stay old new → IsSiftedBy positive S listed old i j → IsSiftedBy positive S listed new i j
-  sifted_stays old new i j h s = elim s [ inl k ↦ inl (h (pair_by positive _ i j) k) | inr n ↦ inr n ]
+  pub sifted_stays : (old new : Shelves) (i j : ℕ) → Stay old new → IsSiftedBy positive S listed old i j → IsSiftedBy positive S listed new i j
+  sifted_stays old new i j h s = elim s [ inl k ↦ inl (h.kept (pair_by positive _ i j) k) | inr n ↦ inr n ]
 
 -- ---- rows that bar what another reaches
 module _ (positive : Bool) (S : LinearSystem) (listed : List (List ℤ)) (i j : ℕ) where
@@ -68,7 +74,7 @@ group_has_none positive S listed i a bits ids part g r wide il inside sized grou
 pub part_at : (n m k : ℕ) (ids : List ℕ) → k < n → get_or (take n (drop m ids)) k 0 ≡ get_or ids (m + k) 0
 part_at n m k ids l = get_or-take n (drop m ids) k 0 l ∙ get_or-drop m ids k 0
 
-pub group_more : (positive : Bool) (S : LinearSystem) (listed : List (List ℤ)) (old new : List (List KeptPair)) (i group to : ℕ) (ids : List ℕ) → Stay old new → to ≡ min (length ids) (64 * group + 64)
+pub group_more : (positive : Bool) (S : LinearSystem) (listed : List (List ℤ)) (old new : Shelves) (i group to : ℕ) (ids : List ℕ) → Stay old new → to ≡ min (length ids) (64 * group + 64)
     → ((k : ℕ) → k < 64 * group → k < length ids → IsSiftedBy positive S listed old i (get_or ids k 0)) → AreSiftedBy positive S listed new i (take (to - 64 * group) (drop (64 * group) ids))
     → (k : ℕ) → k < 64 * (group + 1) → k < length ids → IsSiftedBy positive S listed new i (get_or ids k 0)
 group_more positive S listed old new i group to ids stay e before here k l inside = elim (cases_lt k (64 * group)) [
@@ -82,7 +88,7 @@ group_more positive S listed old new i group to ids stay e before here k l insid
 ]
 
 -- ---- one row more
-module _ (S : LinearSystem) (listed : List (List ℤ)) (d i : ℕ) (old new : List (List KeptPair)) (stay : Stay old new) (inside : i < length listed) (before : AreSifted S listed d i old) where
+module _ (S : LinearSystem) (listed : List (List ℤ)) (i : ℕ) (old new : Shelves) (stay : Stay old new) (inside : i < length listed) (before : AreSifted S listed i old) where
   -- the place of an earlier row
   place_before : (test : List ℤ → Bool) (j : ℕ) → j < i → test (row_at listed j) ≡ true → (k : ℕ) × (k < length (places test 0 (take i listed))) × (get_or (places test 0 (take i listed)) k 0 ≡ 0 + j)
   place_before test j l t =
@@ -95,40 +101,40 @@ module _ (S : LinearSystem) (listed : List (List ℤ)) (d i : ℕ) (old new : Li
     | inr h ↦ inr h
   ]
 
-  pub sifted_above : has_negative_last (row_at listed i) ≡ false → AreSiftedBy true S listed new i (places has_negative_last 0 (take i listed)) → AreSifted S listed d (i + 1) new
-  sifted_above sign here = λ x y xl yl p m up. elim (cases_eq y i) [
+  pub sifted_above : has_negative_last (row_at listed i) ≡ false → AreSiftedBy true S listed new i (places has_negative_last 0 (take i listed)) → AreSifted S listed (i + 1) new
+  sifted_above sign here = λ x y xl yl p m. elim (cases_eq y i) [
     | inl e ↦ absurd (not_both (has_negative_last (row_at listed i)) sign (subst (λ n. has_negative_last (row_at listed n) ≡ true) e m))
     | inr f ↦ elim (cases_eq x i) [
       | inl e ↦
           let k = place_before has_negative_last y (omega (arith, yl, f)) m in
           subst₂ (λ (n o : ℕ). IsSiftedBy true S listed new n o) (sym e) (k.2 ∙ omega arith) (here k.0 k.1)
-      | inr e ↦ sifted_stays true S listed old new x y stay (before x y (omega (arith, xl, e)) (omega (arith, yl, f)) p m up)
+      | inr e ↦ sifted_stays true S listed old new x y stay (before x y (omega (arith, xl, e)) (omega (arith, yl, f)) p m)
     ]
   ]
     where
       not_both : (b : Bool) → b ≡ false → b ≡ true → ⊥
       not_both b e f = let g : true ≡ false = sym f ∙ e in cc
 
-  pub sifted_under : has_positive_last (row_at listed i) ≡ false → AreSiftedBy false S listed new i (places has_positive_last 0 (take i listed)) → AreSifted S listed d (i + 1) new
-  sifted_under sign here = λ x y xl yl p m up. elim (cases_eq x i) [
+  pub sifted_under : has_positive_last (row_at listed i) ≡ false → AreSiftedBy false S listed new i (places has_positive_last 0 (take i listed)) → AreSifted S listed (i + 1) new
+  sifted_under sign here = λ x y xl yl p m. elim (cases_eq x i) [
     | inl e ↦ absurd (not_both (has_positive_last (row_at listed i)) sign (subst (λ n. has_positive_last (row_at listed n) ≡ true) e p))
     | inr f ↦ elim (cases_eq y i) [
       | inl e ↦
           let k = place_before has_positive_last x (omega (arith, xl, f)) p in
           subst (λ n. IsSiftedBy true S listed new x n) (sym e) (turn_round x (subst (λ n. IsSiftedBy false S listed new i n) (k.2 ∙ omega arith) (here k.0 k.1)))
-      | inr e ↦ sifted_stays true S listed old new x y stay (before x y (omega (arith, xl, f)) (omega (arith, yl, e)) p m up)
+      | inr e ↦ sifted_stays true S listed old new x y stay (before x y (omega (arith, xl, f)) (omega (arith, yl, e)) p m)
     ]
   ]
     where
       not_both : (b : Bool) → b ≡ false → b ≡ true → ⊥
       not_both b e f = let g : true ≡ false = sym f ∙ e in cc
 
-  pub sifted_neither : has_positive_last (row_at listed i) ≡ false → has_negative_last (row_at listed i) ≡ false → AreSifted S listed d (i + 1) new
-  sifted_neither above under = λ x y xl yl p m up. elim (cases_eq x i) [
+  pub sifted_neither : has_positive_last (row_at listed i) ≡ false → has_negative_last (row_at listed i) ≡ false → AreSifted S listed (i + 1) new
+  sifted_neither above under = λ x y xl yl p m. elim (cases_eq x i) [
     | inl e ↦ absurd (not_both (has_positive_last (row_at listed i)) above (subst (λ n. has_positive_last (row_at listed n) ≡ true) e p))
     | inr f ↦ elim (cases_eq y i) [
       | inl e ↦ absurd (not_both (has_negative_last (row_at listed i)) under (subst (λ n. has_negative_last (row_at listed n) ≡ true) e m))
-      | inr e ↦ sifted_stays true S listed old new x y stay (before x y (omega (arith, xl, f)) (omega (arith, yl, e)) p m up)
+      | inr e ↦ sifted_stays true S listed old new x y stay (before x y (omega (arith, xl, f)) (omega (arith, yl, e)) p m)
     ]
   ]
     where
@@ -143,44 +149,47 @@ pub not_positive : (z : List ℤ) → has_negative_last z ≡ true → has_posit
 not_positive z p = grind (arith, ints)
 
 -- ---- the sieve with one row more
-module _ {E : Type 0} (S : LinearSystem) (listed : List (List ℤ)) (d i : ℕ) (old v : Sieve) (inside : i < length listed) (h : IsSieveTo S listed d i old) (stay : Stay old.shelves.items v.shelves.items)
-    (shelves : length v.shelves.items ≡ 256) (count : length v.reaches.items ≡ i + 1) (reaches : AreReaches listed v.reaches.items) where
-  pub on_ok_above : (r : Result (Unit {0}) E) → has_positive_last (row_at listed i) ≡ true → v.minus ≡ old.minus → AreSiftedBy true S listed v.shelves.items i old.minus.ids.items → OnOk r (IsTable S listed has_positive_last (i + 1) v.plus)
+module _ {E : Type 0} (S : LinearSystem) (listed : List (List ℤ)) (d i : ℕ) (old v : Sieve) (inside : i < length listed) (h : IsSieveTo S listed d i old) (stay : Stay old.shelves v.shelves)
+    (shelves : length v.shelves.shelves.items ≡ 256) (count : length v.reaches.items ≡ i + 1) (reaches : AreReaches listed v.reaches.items) where
+  pub on_ok_above : (r : Result (Unit {0}) E) → has_positive_last (row_at listed i) ≡ true → v.minus ≡ old.minus → AreSiftedBy true S listed v.shelves i old.minus.ids.items → OnOk r (IsTable S listed has_positive_last (i + 1) v.plus)
       → OnOk r (IsSieveTo S listed d (i + 1) v)
   on_ok_above (Ok u) sign same here table = record {
     plus_table = table;
     minus_table = subst (IsTable S listed has_negative_last (i + 1)) (sym same) (table_less S listed has_negative_last i old.minus inside (not_negative (row_at listed i) sign) h.minus_table);
     shelves_are = shelves;
+    closed = omega (arith, stay.same_closed, h.closed);
     reach_count = count;
     reaches_are = reaches;
-    sifted = sifted_above S listed d i old.shelves.items v.shelves.items stay inside h.sifted (not_negative (row_at listed i) sign)
-        (subst (λ ids. AreSiftedBy true S listed v.shelves.items i ids) h.minus_table.ids_are here);
+    sifted = sifted_above S listed i old.shelves v.shelves stay inside h.sifted (not_negative (row_at listed i) sign)
+        (subst (λ ids. AreSiftedBy true S listed v.shelves i ids) h.minus_table.ids_are here);
   }
   on_ok_above (Err x) sign same here table = tt
 
-  pub on_ok_under : (r : Result (Unit {0}) E) → has_negative_last (row_at listed i) ≡ true → v.plus ≡ old.plus → AreSiftedBy false S listed v.shelves.items i old.plus.ids.items → OnOk r (IsTable S listed has_negative_last (i + 1) v.minus)
+  pub on_ok_under : (r : Result (Unit {0}) E) → has_negative_last (row_at listed i) ≡ true → v.plus ≡ old.plus → AreSiftedBy false S listed v.shelves i old.plus.ids.items → OnOk r (IsTable S listed has_negative_last (i + 1) v.minus)
       → OnOk r (IsSieveTo S listed d (i + 1) v)
   on_ok_under (Ok u) sign same here table = record {
     plus_table = subst (IsTable S listed has_positive_last (i + 1)) (sym same) (table_less S listed has_positive_last i old.plus inside (not_positive (row_at listed i) sign) h.plus_table);
     minus_table = table;
     shelves_are = shelves;
+    closed = omega (arith, stay.same_closed, h.closed);
     reach_count = count;
     reaches_are = reaches;
-    sifted = sifted_under S listed d i old.shelves.items v.shelves.items stay inside h.sifted (not_positive (row_at listed i) sign)
-        (subst (λ ids. AreSiftedBy false S listed v.shelves.items i ids) h.plus_table.ids_are here);
+    sifted = sifted_under S listed i old.shelves v.shelves stay inside h.sifted (not_positive (row_at listed i) sign)
+        (subst (λ ids. AreSiftedBy false S listed v.shelves i ids) h.plus_table.ids_are here);
   }
   on_ok_under (Err x) sign same here table = tt
 
-module _ (S : LinearSystem) (listed : List (List ℤ)) (d i : ℕ) (old v : Sieve) (inside : i < length listed) (h : IsSieveTo S listed d i old) (stay : Stay old.shelves.items v.shelves.items)
-    (shelves : length v.shelves.items ≡ 256) (count : length v.reaches.items ≡ i + 1) (reaches : AreReaches listed v.reaches.items) where
+module _ (S : LinearSystem) (listed : List (List ℤ)) (d i : ℕ) (old v : Sieve) (inside : i < length listed) (h : IsSieveTo S listed d i old) (stay : Stay old.shelves v.shelves)
+    (shelves : length v.shelves.shelves.items ≡ 256) (count : length v.reaches.items ≡ i + 1) (reaches : AreReaches listed v.reaches.items) where
   pub sieve_neither : has_positive_last (row_at listed i) ≡ false → has_negative_last (row_at listed i) ≡ false → v.plus ≡ old.plus → v.minus ≡ old.minus → IsSieveTo S listed d (i + 1) v
   sieve_neither above under p m = record {
     plus_table = subst (IsTable S listed has_positive_last (i + 1)) (sym p) (table_less S listed has_positive_last i old.plus inside above h.plus_table);
     minus_table = subst (IsTable S listed has_negative_last (i + 1)) (sym m) (table_less S listed has_negative_last i old.minus inside under h.minus_table);
     shelves_are = shelves;
+    closed = omega (arith, stay.same_closed, h.closed);
     reach_count = count;
     reaches_are = reaches;
-    sifted = sifted_neither S listed d i old.shelves.items v.shelves.items stay inside h.sifted above under;
+    sifted = sifted_neither S listed i old.shelves v.shelves stay inside h.sifted above under;
   }
 
 pub new_sieve : (S : LinearSystem) (listed : List (List ℤ)) (d : ℕ) (v : Sieve) → IsNewSieve v → IsSieve S listed d v
@@ -190,8 +199,25 @@ new_sieve S listed d v h = record {
     plus_table = no_table S listed has_positive_last v.rows v.plus h.none h.plus_ids h.plus_groups;
     minus_table = no_table S listed has_negative_last v.rows v.minus h.none h.minus_ids h.minus_groups;
     shelves_are = h.shelves_are;
+    closed = omega (arith, h.none_closed);
     reach_count = omega (arith, ap length h.no_reaches, h.none);
     reaches_are = λ k l. absurd (omega (arith, ap length h.no_reaches, l));
     sifted = λ i j l. absurd (omega (arith, h.none, l));
+  };
+}
+
+-- a norm that is closed
+pub closed_sieve : (S : LinearSystem) (listed : List (List ℤ)) (d : ℕ) (old v : Sieve) → v.rows ≡ old.rows → v.reaches ≡ old.reaches → v.plus ≡ old.plus → v.minus ≡ old.minus
+    → length v.shelves.shelves.items ≡ 256 → v.shelves.closed ≤ d → ((p : KeptPair) → IsKept old.shelves p → IsKept v.shelves p) → IsSieve S listed d old → IsSieve S listed d v
+closed_sieve S listed d old v rows reaches plus minus shelves closed kept h = record {
+  within = omega (arith, rows, h.within);
+  upto = record {
+    plus_table = subst₂ (λ (n : ℕ) (t : Table). IsTable S listed has_positive_last n t) (sym rows) (sym plus) h.upto.plus_table;
+    minus_table = subst₂ (λ (n : ℕ) (t : Table). IsTable S listed has_negative_last n t) (sym rows) (sym minus) h.upto.minus_table;
+    shelves_are = shelves;
+    closed = closed;
+    reach_count = omega (arith, rows, ap (λ r. length r.items) reaches, h.upto.reach_count);
+    reaches_are = subst (λ r. AreReaches listed r.items) (sym reaches) h.upto.reaches_are;
+    sifted = λ i j il jl p m. elim (h.upto.sifted i j (omega (arith, il, rows)) (omega (arith, jl, rows)) p m) [ inl k ↦ inl (kept (pair_by true _ i j) k) | inr n ↦ inr n ];
   };
 }

@@ -17,15 +17,8 @@ use Rattle.stage_store.specs.declared.sieve.Room.{Room}
 use Rattle.stage_store.specs.declared.sieve.KeptPair.{KeptPair}
 use Rattle.stage_store.specs.declared.sieve.Table.{Table}
 use Rattle.stage_store.specs.declared.sieve.Sieve.{Sieve}
-
--- ---- the shelves
--- the pair is on its shelf
-abbrev pub IsKept : List (List KeptPair) → KeptPair → Type 0
-IsKept shelves p = Contains (slice_index_or shelves (p.norm % 256) []) p
-
--- what is on its shelf stays there
-abbrev pub Stay : List (List KeptPair) → List (List KeptPair) → Type 0
-Stay old new = (p : KeptPair) → IsKept old p → IsKept new p
+use Rattle.stage_store.specs.declared.shelves.Shelves.{Shelves}
+use Rattle.stage_store.specs.Shelves.{IsKept}
 
 -- the pair of the rows at places i and j, the first with last entry above 0 where so it is told
 abbrev pub pair_by : Bool → ℕ → ℕ → ℕ → KeptPair
@@ -42,11 +35,11 @@ HasNoNewSumBy true S listed i j = HasNoNewSum S listed i j
 HasNoNewSumBy false S listed i j = HasNoNewSum S listed j i
 
 -- the pair of the rows at places i and j is kept, or has no irreducible sum
-abbrev pub IsSiftedBy : Bool → LinearSystem → List (List ℤ) → List (List KeptPair) → ℕ → ℕ → Type 0
+abbrev pub IsSiftedBy : Bool → LinearSystem → List (List ℤ) → Shelves → ℕ → ℕ → Type 0
 IsSiftedBy positive S listed shelves i j =
     IsKept shelves (pair_by positive (stage_norm (row_at listed i) + stage_norm (row_at listed j)) i j) ⊎ HasNoNewSumBy positive S listed i j
 
-abbrev pub AreSiftedBy : Bool → LinearSystem → List (List ℤ) → List (List KeptPair) → ℕ → List ℕ → Type 0
+abbrev pub AreSiftedBy : Bool → LinearSystem → List (List ℤ) → Shelves → ℕ → List ℕ → Type 0
 AreSiftedBy positive S listed shelves i js = (k : ℕ) → k < length js → IsSiftedBy positive S listed shelves i (slice_index_or js k 0)
 
 -- the norms are in range
@@ -90,20 +83,20 @@ pub record IsTable (S : LinearSystem) (listed : List (List ℤ)) (test : List �
   pub sized : AreSized (16 * width S) t.groups.items
   pub groups : AreGroups S listed t.ids.items t.groups.items
 
--- each pair of the first n rows of a norm above d is kept, or has no irreducible sum
-abbrev pub AreSifted : LinearSystem → List (List ℤ) → ℕ → ℕ → List (List KeptPair) → Type 0
-AreSifted S listed d n shelves =
-    (i j : ℕ) → i < n → j < n → has_positive_last (row_at listed i) ≡ true → has_negative_last (row_at listed j) ≡ true
-    → d < stage_norm (row_at listed i) + stage_norm (row_at listed j) → IsSiftedBy true S listed shelves i j
+-- each pair of the first n rows is kept, or has no irreducible sum
+abbrev pub AreSifted : LinearSystem → List (List ℤ) → ℕ → Shelves → Type 0
+AreSifted S listed n shelves =
+    (i j : ℕ) → i < n → j < n → has_positive_last (row_at listed i) ≡ true → has_negative_last (row_at listed j) ≡ true → IsSiftedBy true S listed shelves i j
 
--- the first n rows are sifted
+-- the first n rows are sifted, but for pairs of norms that are not kept; those up to norm d may be closed
 pub record IsSieveTo (S : LinearSystem) (listed : List (List ℤ)) (d n : ℕ) (v : Sieve) : Type 0 where
   pub plus_table : IsTable S listed has_positive_last n v.plus
   pub minus_table : IsTable S listed has_negative_last n v.minus
-  pub shelves_are : length v.shelves.items ≡ 256
+  pub shelves_are : length v.shelves.shelves.items ≡ 256
+  pub closed : v.shelves.closed ≤ d
   pub reach_count : length v.reaches.items ≡ n
   pub reaches_are : AreReaches listed v.reaches.items
-  pub sifted : AreSifted S listed d n v.shelves.items
+  pub sifted : AreSifted S listed n v.shelves
 
 pub record IsSieve (S : LinearSystem) (listed : List (List ℤ)) (d : ℕ) (v : Sieve) : Type 0 where
   pub within : v.rows ≤ length listed
@@ -117,7 +110,8 @@ pub record IsNewSieve (v : Sieve) : Type 0 where
   pub plus_groups : v.plus.groups.items ≡ []
   pub minus_ids : v.minus.ids.items ≡ []
   pub minus_groups : v.minus.groups.items ≡ []
-  pub shelves_are : length v.shelves.items ≡ 256
+  pub shelves_are : length v.shelves.shelves.items ≡ 256
+  pub none_closed : v.shelves.closed ≡ 0
 
 -- ---- what is asked of a row
 -- the row reaches the lines at the places, or bars them

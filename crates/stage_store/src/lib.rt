@@ -13,6 +13,7 @@ mod opened;
 mod order;
 mod reach;
 mod rebuilding;
+mod shelves;
 mod sieve;
 mod stage;
 mod tally;

@@ -15,21 +15,19 @@ ghost use Rattle.stage_store.specs.Classes.{row_at, rows_at, places, sign_test};
 ghost use Rattle.stage_store.specs.Lines.{AreClear, AreInside};
 ghost use Rattle.stage_store.specs.Levels.{AreTrue, BarsLine, ReachesLine};
 ghost use Rattle.stage_store.specs.Reaches.{AreFarApart, AreReaches};
-ghost use Rattle.stage_store.specs.Sieve.{IsKept, Stay, HasNoNewSum, HasNoNewSumBy, IsSiftedBy, AreSiftedBy, IsGroup, AreGroups, IsSized, AreSized, IsDead, IsTable, IsSieveTo, IsSieve, IsNewSieve, IsRoom, AreAsked, AreNormed, AreWide, pair_by};
+ghost use Rattle.stage_store.specs.Shelves.{IsKept, Stay};
+ghost use Rattle.stage_store.specs.Sieve.{HasNoNewSum, HasNoNewSumBy, IsSiftedBy, AreSiftedBy, IsGroup, AreGroups, IsSized, AreSized, IsDead, IsTable, IsSieveTo, IsSieve, IsNewSieve, IsRoom, AreAsked, AreNormed, AreWide, pair_by};
 
 use crate::growing::has_sign;
 use crate::lines::{Lines, take_said};
 use crate::marks::{fill_bars, fill_reached};
 use crate::reach::reach_of;
+use crate::shelves::Shelves;
 use int_vector::norm;
 use lift_core::System;
 use reduce_tree::Tree;
 use row_pool::{Pool, RowId};
 use std::alloc::{AllocError, Global};
-use std::marker::Model;
-
-/// How many shelves there are. A pair stands on the shelf whose number its norm leaves as a remainder.
-const SHELVES: usize = 256;
 
 /// A pair of listed rows by their places, the first with a last entry above 0, and its norm.
 #[derive(Clone, Copy, Drop)]
@@ -37,48 +35,6 @@ pub struct KeptPair {
     pub norm: u64,
     pub first: u32,
     pub second: u32,
-}
-
-/// Pairs on one shelf.
-#[derive(Drop)]
-pub struct Shelf {
-    pairs: Vec<KeptPair>,
-}
-
-impl Model for Shelf {
-    ghost use Rattle.std.specs.Prelude.{List};
-    ghost use Rattle.stage_store.specs.declared.sieve.KeptPair.{KeptPair};
-
-    ghost Value = { List KeptPair };
-
-    ghost view = { λ s. s.pairs.items };
-}
-
-impl Shelf {
-    /// An empty shelf.
-    pub fn new(alloc: Global) -> Shelf
-        ensures { result ≡ [] }
-    {
-        Shelf {
-            pairs: Vec::new(alloc),
-        }
-    }
-
-    /// Puts a pair there.
-    fn push(&mut self, pair: KeptPair) -> Result<(), AllocError>
-        ensures ok { OnOk result (self.new ≡ self.old ++ pair ∷ []) }
-        ensures err { OnErr result (self.new ≡ self.old) }
-    {
-        self.pairs.push(pair)?;
-        Ok(())
-    }
-
-    /// The pairs.
-    pub fn pairs(&self) -> &[KeptPair]
-        ensures { result.now ≡ self.now }
-    {
-        &self.pairs
-    }
 }
 
 /// Lines over 64 rows: for each level of each item which rows bar it, and which reach it.
@@ -112,35 +68,13 @@ pub struct Room {
 #[derive(Drop)]
 pub struct Sieve {
     /// How many rows were sifted.
-    pub rows: u32,
+    rows: u32,
     /// How far the last entry of a partner's may be from each row's, where that is known.
     reaches: Vec<u64>,
     plus: Table,
     minus: Table,
     /// The pairs that may have an irreducible sum.
-    pub shelves: Vec<Shelf>,
-}
-
-/// So many empty shelves.
-fn empty_shelves(alloc: Global) -> Result<Vec<Shelf>, AllocError>
-    ensures { IfOk result (λ shelves. length shelves.items ≡ 256) }
-{
-    let mut shelves = Vec::with_capacity(alloc, SHELVES)?;
-    for _ in 0..SHELVES {
-        shelves.push(Shelf::new(alloc))?;
-    }
-    Ok(shelves)
-}
-
-/// Puts a pair on its shelf.
-fn keep(shelves: &mut Vec<Shelf>, pair: KeptPair) -> Result<(), AllocError>
-    requires { length shelves.old.items ≡ 256 }
-    ensures count { length shelves.new.items ≡ 256 }
-    ensures stay { Stay shelves.old.items shelves.new.items }
-    ensures kept { OnOk result (IsKept shelves.new.items pair) }
-{
-    let shelf = (pair.norm % 256) as usize;
-    shelves[shelf].push(pair)
+    shelves: Shelves,
 }
 
 /// The norm of a row with its last entry.
@@ -177,25 +111,25 @@ fn pair_of(positive: bool, norm: u64, i: u32, j: u32) -> KeptPair
 
 /// Keeps the pair of two rows.
 fn keep_rows(
-    shelves: &mut Vec<Shelf>,
+    shelves: &mut Shelves,
     listed: &Pool,
     width: usize,
     positive: bool,
     i: u32,
     j: u32,
 ) -> Result<(), AllocError>
-    requires count { length shelves.old.items ≡ 256 }
+    requires count { length shelves.old.shelves.items ≡ 256 }
     requires width { listed.now.width ≡ width + 1 }
     requires norms { AreNormed listed.now.rows }
     requires one { i < length listed.now.rows }
     requires two { j < length listed.now.rows }
-    ensures count { length shelves.new.items ≡ 256 }
-    ensures stay { Stay shelves.old.items shelves.new.items }
-    ensures kept { OnOk result (IsKept shelves.new.items (pair_by positive (stage_norm (row_at listed.now.rows i) + stage_norm (row_at listed.now.rows j)) i j)) }
+    ensures count { length shelves.new.shelves.items ≡ 256 }
+    ensures stay { Stay shelves.old shelves.new }
+    ensures kept { OnOk result (IsKept shelves.new (pair_by positive (stage_norm (row_at listed.now.rows i) + stage_norm (row_at listed.now.rows j)) i j)) }
 {
     let one = norm_of(listed.row(RowId(i)), width);
     let two = norm_of(listed.row(RowId(j)), width);
-    keep(shelves, pair_of(positive, one + two, i, j))
+    shelves.keep(pair_of(positive, one + two, i, j))
 }
 
 /// Whether a value is larger than another by a reach or more. A reach of 0 tells nothing.
@@ -262,7 +196,7 @@ fn is_passed(listed: &Pool, width: usize, reaches: &[u64], positive: bool, i: u3
 /// Sifts the pairs of a row with at most 64 others, each of which has a bit of `dead` that tells, where it is set,
 /// that the pair has no irreducible sum.
 fn sift_group(
-    shelves: &mut Vec<Shelf>,
+    shelves: &mut Shelves,
     system: &System,
     listed: &Pool,
     reaches: &[u64],
@@ -271,7 +205,7 @@ fn sift_group(
     others: &[u32],
     dead: u64,
 ) -> Result<(), AllocError>
-    requires count { length shelves.old.items ≡ 256 }
+    requires count { length shelves.old.shelves.items ≡ 256 }
     requires reaches { AreReaches listed.now.rows reaches.now }
     requires reach_count { length reaches.now ≤ length listed.now.rows }
     requires width { listed.now.width ≡ width system.now.equations + 1 }
@@ -280,9 +214,9 @@ fn sift_group(
     requires others { AllByRecursion (λ j. j < length reaches.now) others.now }
     requires most { length others.now ≤ 64 }
     requires dead { (k : ℕ) → k < length others.now → bit_at dead k ≡ 1 → HasNoNewSumBy positive system.now.equations listed.now.rows i (slice_index_or others.now k 0) }
-    ensures count { length shelves.new.items ≡ 256 }
-    ensures stay { Stay shelves.old.items shelves.new.items }
-    ensures sifted { OnOk result (AreSiftedBy positive system.now.equations listed.now.rows shelves.new.items i others.now) }
+    ensures count { length shelves.new.shelves.items ≡ 256 }
+    ensures stay { Stay shelves.old shelves.new }
+    ensures sifted { OnOk result (AreSiftedBy positive system.now.equations listed.now.rows shelves.new i others.now) }
 {
     // Of most groups all rows are out.
     if dead == u64::MAX {
@@ -467,7 +401,7 @@ impl Room {
 
 /// Sifts the pairs of a row with the rows of the other sign that a table has.
 fn sift_row(
-    shelves: &mut Vec<Shelf>,
+    shelves: &mut Shelves,
     system: &System,
     listed: &Pool,
     reaches: &[u64],
@@ -476,7 +410,7 @@ fn sift_row(
     table: &Table,
     room: &Room,
 ) -> Result<(), AllocError>
-    requires count { length shelves.old.items ≡ 256 }
+    requires count { length shelves.old.shelves.items ≡ 256 }
     requires reaches { AreReaches listed.now.rows reaches.now }
     requires reach_count { length reaches.now ≤ length listed.now.rows }
     requires width { listed.now.width ≡ width system.now.equations + 1 }
@@ -489,9 +423,9 @@ fn sift_row(
     requires sized { AreSized (16 * width system.now.equations) table.now.groups.items }
     requires tell { AreGroups system.now.equations listed.now.rows table.now.ids.items table.now.groups.items }
     requires asked { AreAsked system.now.equations listed.now.rows (row_at listed.now.rows i) room.now }
-    ensures count { length shelves.new.items ≡ 256 }
-    ensures stay { Stay shelves.old.items shelves.new.items }
-    ensures sifted { OnOk result (AreSiftedBy positive system.now.equations listed.now.rows shelves.new.items i table.now.ids.items) }
+    ensures count { length shelves.new.shelves.items ≡ 256 }
+    ensures stay { Stay shelves.old shelves.new }
+    ensures sifted { OnOk result (AreSiftedBy positive system.now.equations listed.now.rows shelves.new i table.now.ids.items) }
 {
     for group in 0..table.groups.len() {
         let from = 64 * group;
@@ -513,11 +447,48 @@ impl Sieve {
             reaches: Vec::new(alloc),
             plus: Table::new(alloc),
             minus: Table::new(alloc),
-            shelves: empty_shelves(alloc)?,
+            shelves: Shelves::new(alloc)?,
         })
     }
 
-    /// Sifts the pairs of the rows that were listed since. After an error nothing counts as sifted.
+    /// Begins anew: nothing was sifted.
+    fn begin(&mut self, alloc: Global)
+        requires { length self.old.shelves.shelves.items ≡ 256 }
+        ensures { IsNewSieve self.new }
+    {
+        self.rows = 0;
+        self.reaches = Vec::new(alloc);
+        self.plus = Table::new(alloc);
+        self.minus = Table::new(alloc);
+        self.shelves.begin(alloc);
+    }
+
+    /// Begins anew where pairs of the next norm were not kept.
+    fn renew(&mut self, alloc: Global, norm: u64, next: u64)
+        requires shelves { length self.old.shelves.shelves.items ≡ 256 }
+        requires closed { self.old.shelves.closed ≤ norm }
+        ensures shelves { length self.new.shelves.shelves.items ≡ 256 }
+        ensures closed { self.new.shelves.closed ≤ norm }
+        ensures held { (S : LinearSystem) (listed : List (List ℤ)) → IsSieve S listed norm self.old → IsSieve S listed norm self.new }
+    {
+        if next < self.shelves.horizon() {
+            return;
+        }
+        self.begin(alloc);
+    }
+
+    /// Drops the pairs of the closed norm, and begins anew where pairs of the next one were not kept.
+    fn turn(&mut self, alloc: Global, norm: u64, next: u64, rows: u32)
+        requires shelves { length self.old.shelves.shelves.items ≡ 256 }
+        requires closed { self.old.shelves.closed ≤ norm }
+        ensures { (S : LinearSystem) (listed : List (List ℤ)) → IsSieve S listed norm self.old → IsSieve S listed norm self.new }
+    {
+        self.renew(alloc, norm, next);
+        self.shelves.close(norm, rows);
+    }
+
+    /// Sifts the pairs of the rows that were listed since, before the next norm is opened. After an error nothing counts as
+    /// sifted.
     pub fn sift(
         &mut self,
         alloc: Global,
@@ -525,6 +496,7 @@ impl Sieve {
         listed: &Pool,
         tree: &Tree,
         norm: u64,
+        next: u64,
     ) -> Result<(), AllocError>
         requires indexed { HoldsRows tree.now listed.now }
         requires width { listed.now.width ≡ width system.now.equations + 1 }
@@ -534,21 +506,33 @@ impl Sieve {
         requires wide { AreWide (width system.now.equations + 1) listed.now.rows }
         requires held { IsSieve system.now.equations listed.now.rows norm self.old }
         ensures held { IsSieve system.now.equations listed.now.rows norm self.new }
-        ensures all { OnOk result (self.new.rows ≡ length listed.now.rows) }
     {
+        self.turn(alloc, norm, next, listed.len());
         match self.sift_rows(alloc, system, listed, tree, norm) {
             Ok(()) => {
                 self.rows = listed.len();
                 Ok(())
             }
             Err(refused) => {
-                self.rows = 0;
-                self.reaches = Vec::new(alloc);
-                self.plus = Table::new(alloc);
-                self.minus = Table::new(alloc);
+                self.begin(alloc);
                 Err(refused)
             }
         }
+    }
+
+    /// Whether each pair of a norm, of so many listed rows, is kept or has no irreducible sum.
+    pub fn knows(&self, rows: u32, norm: u64) -> bool
+        ensures { IsTrue result → (self.now.rows ≡ rows) × (norm < self.now.shelves.horizon) }
+    {
+        self.rows == rows && norm < self.shelves.horizon()
+    }
+
+    /// The kept pairs among which those of a norm are.
+    pub fn kept(&self, norm: u64) -> &[KeptPair]
+        requires { length self.now.shelves.shelves.items ≡ 256 }
+        ensures { result.now ≡ slice_index_or self.now.shelves.shelves.items (norm % 256) [] }
+    {
+        self.shelves.at(norm)
     }
 
     /// Sifts the pairs of the rows that were listed since, one row after another.
@@ -568,7 +552,7 @@ impl Sieve {
         requires wide { AreWide (width system.now.equations + 1) listed.now.rows }
         requires within { self.old.rows ≤ length listed.now.rows }
         requires upto { IsSieveTo system.now.equations listed.now.rows norm self.old.rows self.old }
-        ensures shelves { length self.new.shelves.items ≡ 256 }
+        ensures shelves { length self.new.shelves.shelves.items ≡ 256 }
         ensures upto { OnOk result (IsSieveTo system.now.equations listed.now.rows norm (length listed.now.rows) self.new) }
     {
         let mut room = Room::new(alloc, system.width() as usize)?;
@@ -599,7 +583,7 @@ impl Sieve {
         requires upto { IsSieveTo system.now.equations listed.now.rows norm i self.old }
         requires room { IsRoom system.now.equations room.old }
         ensures room { IsRoom system.now.equations room.new }
-        ensures shelves { length self.new.shelves.items ≡ 256 }
+        ensures shelves { length self.new.shelves.shelves.items ≡ 256 }
         ensures upto { OnOk result (IsSieveTo system.now.equations listed.now.rows norm (i + 1) self.new) }
     {
         let width = system.width() as usize;
@@ -635,7 +619,7 @@ impl Sieve {
         requires upto { IsSieveTo system.now.equations listed.now.rows norm i self.old }
         requires room { IsRoom system.now.equations room.old }
         ensures room { IsRoom system.now.equations room.new }
-        ensures shelves { length self.new.shelves.items ≡ 256 }
+        ensures shelves { length self.new.shelves.shelves.items ≡ 256 }
         ensures upto { OnOk result (IsSieveTo system.now.equations listed.now.rows norm (i + 1) self.new) }
     {
         room.ask(system, listed, tree, i, &self.minus)?;
@@ -676,7 +660,7 @@ impl Sieve {
         requires upto { IsSieveTo system.now.equations listed.now.rows norm i self.old }
         requires room { IsRoom system.now.equations room.old }
         ensures room { IsRoom system.now.equations room.new }
-        ensures shelves { length self.new.shelves.items ≡ 256 }
+        ensures shelves { length self.new.shelves.shelves.items ≡ 256 }
         ensures upto { OnOk result (IsSieveTo system.now.equations listed.now.rows norm (i + 1) self.new) }
     {
         room.ask(system, listed, tree, i, &self.plus)?;

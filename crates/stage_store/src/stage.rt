@@ -601,9 +601,11 @@ impl Stage {
         ensures { self.new ≡ self.old }
     {
         self.look_ahead();
-        self.sift()?;
         match self.next_norm() {
-            Some(Next::Norm(e)) => self.open(e),
+            Some(Next::Norm(e)) => {
+                self.sift(e)?;
+                self.open(e)
+            }
             _ => Ok(()),
         }
     }
@@ -629,8 +631,8 @@ impl Stage {
         }
     }
 
-    /// Sifts the pairs of the rows that were listed since.
-    fn sift(&mut self) -> Result<(), AllocError>
+    /// Sifts the pairs of the rows that were listed since, before norm e is opened.
+    fn sift(&mut self, e: u64) -> Result<(), AllocError>
         ensures { self.new ≡ self.old }
     {
         self.sieve.sift(
@@ -639,6 +641,7 @@ impl Stage {
             &self.listed,
             &self.tree,
             self.norm,
+            e,
         )
     }
 
@@ -647,11 +650,10 @@ impl Stage {
         requires { self.old.norm < e }
         ensures { self.new ≡ self.old }
     {
-        if self.sieve.rows != self.listed.len() {
+        if !self.sieve.knows(self.listed.len(), e) {
             return Ok(());
         }
         let width = self.system.width() as usize;
-        let shelf = &self.sieve.shelves[(e % 256) as usize];
         let opened = open_norm(
             self.alloc,
             &self.listed,
@@ -659,7 +661,7 @@ impl Stage {
             &self.plus,
             &self.minus,
             e,
-            shelf.pairs(),
+            self.sieve.kept(e),
         )?;
         self.ahead = opened;
         Ok(())

@@ -13,7 +13,7 @@ loop-k-preserved-then-dead-k-eq1 c =
     record {
       count = c.loop-k.invariant.count;
       stay = c.loop-k.invariant.stay;
-      sifted = below_more (λ k. IsSiftedBy c.args.positive c.args.system.now.equations c.args.listed.now.rows c.loop-k.shelves.items c.args.i (slice_index_or c.args.others.now k 0)) c.loop-k.k c.loop-k.invariant.sifted
+      sifted = below_more (λ k. IsSiftedBy c.args.positive c.args.system.now.equations c.args.listed.now.rows c.loop-k.shelves c.args.i (slice_index_or c.args.others.now k 0)) c.loop-k.k c.loop-k.invariant.sifted
           (inr (c.requires.dead c.loop-k.k c.loop-k-test.true bit));
     }
 
@@ -21,7 +21,7 @@ pub loop-k-preserved-then-is_passed : goal.loop-k-preserved-then-is_passed
 loop-k-preserved-then-is_passed c = record {
   count = c.loop-k.invariant.count;
   stay = c.loop-k.invariant.stay;
-  sifted = below_more (λ k. IsSiftedBy c.args.positive c.args.system.now.equations c.args.listed.now.rows c.loop-k.shelves.items c.args.i (slice_index_or c.args.others.now k 0)) c.loop-k.k c.loop-k.invariant.sifted
+  sifted = below_more (λ k. IsSiftedBy c.args.positive c.args.system.now.equations c.args.listed.now.rows c.loop-k.shelves c.args.i (slice_index_or c.args.others.now k 0)) c.loop-k.k c.loop-k.invariant.sifted
       (inr (c.if-is_passed.ensures c.args.system.now.equations refl));
 }
 
@@ -32,8 +32,8 @@ pub loop-k-preserved : goal.loop-k-preserved
 loop-k-preserved c = record {
   count = c.keep_rows.ensures.count;
   stay = stay_through _ _ _ c.loop-k.invariant.stay c.keep_rows.ensures.stay;
-  sifted = below_more (λ k. IsSiftedBy c.args.positive c.args.system.now.equations c.args.listed.now.rows c.keep_rows.new.shelves.items c.args.i (slice_index_or c.args.others.now k 0)) c.loop-k.k
-      (λ k l. sifted_stays c.args.positive c.args.system.now.equations c.args.listed.now.rows c.loop-k.shelves.items c.keep_rows.new.shelves.items c.args.i (slice_index_or c.args.others.now k 0) c.keep_rows.ensures.stay (c.loop-k.invariant.sifted k l))
+  sifted = below_more (λ k. IsSiftedBy c.args.positive c.args.system.now.equations c.args.listed.now.rows c.keep_rows.new.shelves c.args.i (slice_index_or c.args.others.now k 0)) c.loop-k.k
+      (λ k l. sifted_stays c.args.positive c.args.system.now.equations c.args.listed.now.rows c.loop-k.shelves c.keep_rows.new.shelves c.args.i (slice_index_or c.args.others.now k 0) c.keep_rows.ensures.stay (c.loop-k.invariant.sifted k l))
       (inl c.in_ok-keep_rows.ensures.kept);
 }
 

@@ -48,6 +48,6 @@ loop-group-preserved c =
     record {
       count = c.sift_group.ensures.count;
       stay = stay_through _ _ _ c.loop-group.invariant.stay c.sift_group.ensures.stay;
-      sifted = group_more c.args.positive c.args.system.now.equations c.args.listed.now.rows c.loop-group.shelves.items c.sift_group.new.shelves.items c.args.i c.loop-group.group c.min-to.result c.args.table.now.ids.items c.sift_group.ensures.stay to c.loop-group.invariant.sifted
-          (subst (λ (l : List ℕ). AreSiftedBy c.args.positive c.args.system.now.equations c.args.listed.now.rows c.sift_group.new.shelves.items c.args.i (take (c.min-to.result - 64 * c.loop-group.group) (drop (64 * c.loop-group.group) l))) c.deref-in-loop-group-2.ensures.value c.in_ok-sift_group.ensures.sifted);
+      sifted = group_more c.args.positive c.args.system.now.equations c.args.listed.now.rows c.loop-group.shelves c.sift_group.new.shelves c.args.i c.loop-group.group c.min-to.result c.args.table.now.ids.items c.sift_group.ensures.stay to c.loop-group.invariant.sifted
+          (subst (λ (l : List ℕ). AreSiftedBy c.args.positive c.args.system.now.equations c.args.listed.now.rows c.sift_group.new.shelves c.args.i (take (c.min-to.result - 64 * c.loop-group.group) (drop (64 * c.loop-group.group) l))) c.deref-in-loop-group-2.ensures.value c.in_ok-sift_group.ensures.sifted);
     }

@@ -3,7 +3,7 @@ use Rattle.lift_core.specs.Stages.{has_positive_last, has_negative_last}
 use Rattle.stage_store.specs.Classes.{row_at}
 use Rattle.stage_store.specs.Reaches.{AreReaches}
 use Rattle.stage_store.proofs.Reaches.{one_reach_more}
-use Rattle.stage_store.proofs.Sifting.{sieve_neither}
+use Rattle.stage_store.proofs.Sifting.{sieve_neither, stay_as}
 use Rattle.stage_store.proofs.sieve.Sieve.sift_next.Goals as goal
 
 pub returns-clause-upto : goal.returns-clause-upto
@@ -14,4 +14,4 @@ returns-clause-upto c =
     let above : has_positive_last (row_at c.args.listed.now.rows c.args.i) ≡ false = ap has_positive_last (sym c.row.ensures.row) ∙ sym c.has_sign.ensures ∙ c.if-has_sign.false in
     let under : has_negative_last (row_at c.args.listed.now.rows c.args.i) ≡ false = ap has_negative_last (sym c.row-2.ensures.row) ∙ sym c.has_sign-2.ensures ∙ c.if-has_sign-2.false in
     sieve_neither c.args.system.now.equations c.args.listed.now.rows c.args.norm c.args.i c.args.self.now (record { rows = c.args.self.now.rows; reaches = c.push.new.self; plus = c.args.self.now.plus; minus = c.args.self.now.minus; shelves = c.args.self.now.shelves })
-    c.requires.row c.requires.upto (λ p k. k) c.requires.upto.shelves_are count reaches above under refl refl
+    c.requires.row c.requires.upto (stay_as c.args.self.now.shelves) c.requires.upto.shelves_are count reaches above under refl refl

@@ -19,12 +19,11 @@ open_norm-requires-clause-small c =
 pub invariant_of-self : goal.invariant_of-self
 invariant_of-self c =
     let i = c.self.invariant in
-    let a : AreOpened c.self.inside.plus.items c.self.inside.minus.items c.args.e c.pairs.result.now c.in_ok-opened.opened.pairs.items =
-    subst₂ (λ (p m : List ClassValue). AreOpened p m c.args.e c.pairs.result.now c.in_ok-opened.opened.pairs.items) c.deref.ensures.value c.deref-2.ensures.value c.in_ok-opened.ensures.opened in
+    let a : AreOpened c.self.inside.plus.items c.self.inside.minus.items c.args.e c.kept.result.now c.in_ok-opened.opened.pairs.items =
+    subst₂ (λ (p m : List ClassValue). AreOpened p m c.args.e c.kept.result.now c.in_ok-opened.opened.pairs.items) c.deref.ensures.value c.deref-2.ensures.value c.in_ok-opened.ensures.opened in
     let above : c.self.inside.norm < c.args.e = omega (arith, ap norm_of c.self.view_is, c.requires) in
-    let rows : c.self.inside.sieve.rows ≡ length c.self.inside.listed.rows = c.if-self-len.false ∙ c.len.ensures in
-    let here : c.pairs.result.now ≡ get_or c.self.inside.sieve.shelves.items (c.args.e % 256) [] =
-    c.pairs.ensures ∙ c.index-shelf.ensures ∙ get_or-default c.self.inside.sieve.shelves.items (c.args.e % 256) c.index-shelf.result.now [] (omega (arith, i.sieve_is.upto.shelves_are)) in
+    let knows = c.knows.ensures c.if-not-knows.false in
+    let rows : c.self.inside.sieve.rows ≡ length c.self.inside.listed.rows = knows.0 ∙ c.len.ensures in
     record {
       stage = i.stage;
       listed_width = i.listed_width;
@@ -42,5 +41,5 @@ invariant_of-self c =
       tally_is = i.tally_is;
       ahead_is = λ t. subst (λ (n : ℕ). IsOpen (value_of c.self.inside.system c.self.inside.number c.self.inside.norm c.self.inside.before c.self.inside.listed.rows (drop c.self.inside.waited c.self.inside.waiting.rows)) n c.in_ok-opened.opened.pairs.items) (sym c.in_ok-opened.ensures.norm)
           (opened_is_open (value_of c.self.inside.system c.self.inside.number c.self.inside.norm c.self.inside.before c.self.inside.listed.rows (drop c.self.inside.waited c.self.inside.waiting.rows)) c.self.inside.plus.items c.self.inside.minus.items c.args.e
-          i.plus_classes i.minus_classes c.self.inside.sieve c.pairs.result.now c.in_ok-opened.opened.pairs.items i.stage i.sieve_is rows above here a c.in_ok-opened.ensures.ascending);
+          i.plus_classes i.minus_classes c.self.inside.sieve c.kept.result.now c.in_ok-opened.opened.pairs.items i.stage i.sieve_is rows above knows.1 c.kept.ensures a c.in_ok-opened.ensures.ascending);
     }

@@ -1,5 +1,5 @@
 use Rattle.std.proofs.Common.{◌≡◌, length}
-use Rattle.stage_store.proofs.sieve.empty_shelves.Given as goal
+use Rattle.stage_store.proofs.shelves.empty_shelves.Given as goal
 
 abbrev pub invariant-loop : goal.invariant-loop
 invariant-loop l = length l.shelves.items ≡ l.counter
