@@ -1,5 +1,5 @@
 -- What stays on the shelves.
-use Rattle.std.proofs.Common.{◌≡◌, ℕ, ◌%◌, ◌<◌, List, [], length, get_or, set, sym, subst, arith, inl, inr, refl, Bool, true}
+use Rattle.std.proofs.Common.{◌≡◌, ℕ, ◌%◌, ◌<◌, List, [], length, get_or, set, sym, subst, arith, inl, inr, Bool, true}
 use Rattle.std.specs.Prelude.{nat_lt}
 use Rattle.std.specs.List.{filter, Contains}
 use Rattle.std.proofs.lemmas.Bool.{cases_eq}

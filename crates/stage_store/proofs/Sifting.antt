@@ -26,10 +26,10 @@ use Rattle.stage_store.specs.declared.shelves.Shelves.{Shelves}
 use Rattle.stage_store.specs.Shelves.{IsKept, Stay}
 
 pub stay_through : (a b c : Shelves) → Stay a b → Stay b c → Stay a c
-stay_through a b c h k = record { same_closed = k.same_closed ∙ h.same_closed; kept = λ p x. k.kept p (h.kept p x); }
+stay_through a b c h k = record { same_closed = k.same_closed ∙ h.same_closed; kept = λ p x. k.kept p (h.kept p x) }
 
 pub stay_as : (a : Shelves) → Stay a a
-stay_as a = record { same_closed = refl; kept = λ p x. x; }
+stay_as a = record { same_closed = refl; kept = λ p x. x }
 
 module _ (positive : Bool) (S : LinearSystem) (listed : List (List ℤ)) where
   pub sifted_stays : (old new : Shelves) (i j : ℕ) → Stay old new → IsSiftedBy positive S listed old i j → IsSiftedBy positive S listed new i j

@@ -1,19 +1,10 @@
 -- The rows of pools behind references, one more at a time, and their ordered list.
-use Rattle.std.proofs.Common.{◌≡◌, inl, inr, ℕ, ◌<◌, ◌≤◌, ◌+◌, List, [], ◌∷◌, length, get_or, refl, sym, ap, subst, ◌∙◌, Bool, true, arith, Ordering, Result, Ok, Err}
+use Rattle.std.proofs.Common.{◌≡◌, inl, inr, ℕ, ◌<◌, ◌+◌, List, [], ◌∷◌, length, get_or, sym, ap, subst, ◌∙◌, Result, Ok, Err}
 use Rattle.std.specs.Prelude.{ℤ, ◌++◌, ◌⊎◌, take, All, IfOk}
 use Rattle.std.specs.Borrow.{Bor}
-use Rattle.std.specs.List.{Contains, dedup, Any}
-use Rattle.std.specs.List.Sorted.{IsPermutation, IsSorted, IsStrictlySortedBy}
-use Rattle.std.specs.Ordering.{int_cmp, int_eq}
-use Rattle.std.specs.Cmp.{IsTotalOrder, on_total, int_eq_equiv, on_equiv}
-use Rattle.std.specs.Cmp.Lexicographic.{pointwise, lists_equiv, lists_ties}
-use Rattle.std.specs.Cmp.Rules.{signed_items}
-use Rattle.std.proofs.lemmas.List.{length-map}
-use Rattle.std.proofs.lemmas.List.Kept.{IsStrictlySortedBy-dedup, Contains-from_dedup, Any-dedup}
-use Rattle.std.proofs.lemmas.List.Sorted.{Contains-permutation, IsPermutation-sym}
+use Rattle.std.specs.List.{Contains}
 use Rattle.int_vector.specs.Vectors.{lex_cmp}
-use Rattle.lift_core.proofs.Lists.{each_from_contained}
-use Rattle.lift_core.proofs.Orders.{in_map, from_map, map_ascending, lex_cmp_total}
+use Rattle.lift_core.proofs.Orders.{in_map}
 use Rattle.std.proofs.lemmas.List.{map-append, append_assoc, take_more}
 use Rattle.std.proofs.lemmas.List.Elements.{Contains-append_cases, Contains-append_left, Contains-append_right, Contains-get_or}
 use Rattle.row_pool.specs.Rows.{InRange, PoolValue}

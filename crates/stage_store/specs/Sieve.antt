@@ -1,7 +1,7 @@
 -- The sieve: which pairs of listed rows may have an irreducible sum. What it says is one-sided: a pair that is kept may
 -- have none, and one that is not kept has none.
-use Rattle.std.specs.Prelude.{◌≡◌, ◌⊎◌, ℕ, ◌+◌, ◌*◌, ◌/◌, ◌%◌, ◌<◌, ◌≤◌, List, [], ℤ, Bool, true, false, length, take, slice_index_or}
-use Rattle.std.specs.List.{AllByRecursion, Contains}
+use Rattle.std.specs.Prelude.{◌≡◌, ◌⊎◌, ℕ, ◌+◌, ◌*◌, ◌/◌, ◌<◌, ◌≤◌, List, [], ℤ, Bool, true, false, length, take, slice_index_or}
+use Rattle.std.specs.List.{AllByRecursion}
 use Rattle.lift_core.specs.Systems.{LinearSystem}
 use Rattle.lift_core.specs.ToolSystems.{width}
 use Rattle.lift_core.specs.Stages.{stage_norm, has_positive_last, has_negative_last}

@@ -5,6 +5,7 @@ mod class;
 mod counting;
 mod growing;
 pub mod laws;
+mod left;
 mod lifting;
 mod lines;
 mod marks;

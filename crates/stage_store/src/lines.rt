@@ -46,6 +46,14 @@ impl Lines {
         }
     }
 
+    /// A line, and one without a bit that is set where there is none.
+    pub fn line(&self, m: usize) -> u64 {
+        match self.words.get(m) {
+            Some(word) => *word,
+            None => 0,
+        }
+    }
+
     /// The rows that have a bit in one of the lines.
     pub fn any(&self, places: &[usize]) -> u64
         requires { AreInside (length self.now) places.now }

@@ -12,7 +12,9 @@ ghost use Rattle.stage_store.specs.Indexed.{HoldsRows};
 ghost use Rattle.stage_store.specs.Levels.{BarsLine, ReachesLine, AreTrue, IsOnSide, IsRaised, IsNear, IsNearOr, IsAgainst, IsFull, IsBarLevel, IsReachLevel};
 ghost use Rattle.stage_store.specs.Found.{IsReduced};
 
+use crate::left::Left;
 use crate::reach::{fill_probe, find_listed};
+use crate::sieve::Table;
 use int_vector::below;
 use lift_core::System;
 use reduce_tree::Tree;
@@ -260,13 +262,16 @@ fn reach_level(row: &[i64], column: usize, positive: bool) -> u8
     LEVELS
 }
 
-/// Writes from which level on a row bars each item; rows near it are looked for only where that is wanted.
+/// Writes from which level on a row bars each item. Rows near it are looked for only where that is wanted, and is worth it
+/// for the rows of a table that are left.
 pub fn fill_bars(
     system: &System,
     listed: &Pool,
     tree: &Tree,
     row: &[i64],
+    table: &Table,
     near: bool,
+    left: &mut Left,
     probe: &mut [i64],
     bars: &mut [u8],
 )
@@ -280,7 +285,12 @@ pub fn fill_bars(
     ensures bars { AreTrue (BarsLine system.now.equations listed.now.rows row.now) true bars.new }
 {
     for k in 0..bars.len() {
-        bars[k] = bar_level(system, listed, tree, row, k / 2, k % 2 == 0, near, probe);
+        let looks = near && bars[k] > 0 && left.wants(table, k);
+        let level = bar_level(system, listed, tree, row, k / 2, k % 2 == 0, looks, probe);
+        bars[k] = level;
+        if looks {
+            left.take_out(table, k, level);
+        }
     }
 }
 

@@ -19,6 +19,7 @@ ghost use Rattle.stage_store.specs.Shelves.{IsKept, Stay};
 ghost use Rattle.stage_store.specs.Sieve.{HasNoNewSum, HasNoNewSumBy, IsSiftedBy, AreSiftedBy, IsGroup, AreGroups, IsSized, AreSized, IsDead, IsTable, IsSieveTo, IsSieve, IsNewSieve, IsRoom, AreAsked, AreNormed, AreWide, pair_by};
 
 use crate::growing::has_sign;
+use crate::left::Left;
 use crate::lines::{Lines, take_said};
 use crate::marks::{fill_bars, fill_reached};
 use crate::reach::reach_of;
@@ -62,6 +63,8 @@ pub struct Room {
     bar_reads: Vec<usize>,
     /// Where rows that reach what this one bars have a bit.
     reach_reads: Vec<usize>,
+    /// The rows that are left after that.
+    left: Left,
 }
 
 /// The sieve over the first listed rows.
@@ -213,7 +216,8 @@ fn sift_group(
     requires row { i < length reaches.now }
     requires others { AllByRecursion (λ j. j < length reaches.now) others.now }
     requires most { length others.now ≤ 64 }
-    requires dead { (k : ℕ) → k < length others.now → bit_at dead k ≡ 1 → HasNoNewSumBy positive system.now.equations listed.now.rows i (slice_index_or others.now k 0) }
+    requires dead { (k : ℕ) → k < length others.now → bit_at dead k ≡ 1
+        → HasNoNewSumBy positive system.now.equations listed.now.rows i (slice_index_or others.now k 0) }
     ensures count { length shelves.new.shelves.items ≡ 256 }
     ensures stay { Stay shelves.old shelves.new }
     ensures sifted { OnOk result (AreSiftedBy positive system.now.equations listed.now.rows shelves.new i others.now) }
@@ -258,6 +262,15 @@ impl Group {
     }
 }
 
+/// The first bits of a word, so many of them.
+fn first_bits(count: usize) -> u64 {
+    if count < 64 {
+        !(u64::MAX << count)
+    } else {
+        u64::MAX
+    }
+}
+
 impl Table {
     /// A table without rows.
     fn new(alloc: Global) -> Table
@@ -270,20 +283,38 @@ impl Table {
         }
     }
 
-    /// How many rows have no bit in the lines that are read.
-    fn left(&self, count: usize, bar_reads: &[usize], reach_reads: &[usize]) -> u64
+    /// How many groups there are.
+    pub fn groups(&self) -> usize
+        ensures { result ≡ length self.now.groups.items }
+    {
+        self.groups.len()
+    }
+
+    /// The rows of a group that have no bit in the lines that are read.
+    pub fn left_in(
+        &self,
+        count: usize,
+        group: usize,
+        bar_reads: &[usize],
+        reach_reads: &[usize],
+    ) -> u64
+        requires group { group < length self.now.groups.items }
         requires sized { AreSized count self.now.groups.items }
         requires bars { AreInside count bar_reads.now }
         requires reached { AreInside count reach_reads.now }
     {
-        let mut left: u64 = 0;
-        for group in 0..self.groups.len() {
-            let dead = self.groups[group].dead(bar_reads, reach_reads);
-            left = left.saturating_add(u64::from(dead.count_zeros()));
+        let dead = self.groups[group].dead(bar_reads, reach_reads);
+        !dead & first_bits(self.ids.len().saturating_sub(group.saturating_mul(64)))
+    }
+
+    /// The rows of a group that reach an item at a level.
+    pub fn reached_line(&self, group: usize, item: usize, level: u8) -> u64 {
+        match self.groups.get(group) {
+            Some(group) => group
+                .reached
+                .line(item.saturating_mul(8).saturating_add(level as usize)),
+            None => 0,
         }
-        // The last group may have fewer rows than bits.
-        let bits = self.groups.len().saturating_mul(64);
-        left.saturating_sub(bits.saturating_sub(self.ids.len()) as u64)
     }
 
     /// Makes room for one row more in the last group.
@@ -293,7 +324,8 @@ impl Table {
         ensures ids { self.new.ids ≡ self.old.ids }
         ensures count { OnOk result (length self.new.groups.items ≡ length self.old.ids.items / 64 + 1) }
         ensures sized { OnOk result (AreSized count self.new.groups.items) }
-        ensures groups { OnOk result ((S : LinearSystem) (listed : List (List ℤ)) → AreGroups S listed self.old.ids.items self.old.groups.items → AreGroups S listed self.old.ids.items self.new.groups.items) }
+        ensures groups { OnOk result ((S : LinearSystem) (listed : List (List ℤ)) → AreGroups S listed self.old.ids.items self.old.groups.items
+            → AreGroups S listed self.old.ids.items self.new.groups.items) }
     {
         if self.ids.len() % 64 == 0 {
             self.groups.push(Group::new(alloc, count)?)?;
@@ -311,7 +343,8 @@ impl Table {
         ensures count { OnOk result (length self.new.groups.items ≡ (length self.new.ids.items + 63) / 64) }
         ensures sized { OnOk result (AreSized (8 * length bars.now) self.new.groups.items) }
         ensures groups { OnOk result ((S : LinearSystem) (listed : List (List ℤ)) → AreGroups S listed self.old.ids.items self.old.groups.items
-            → AreTrue (BarsLine S listed (row_at listed i)) true bars.now → AreTrue (ReachesLine (row_at listed i)) false reached.now → AreGroups S listed self.new.ids.items self.new.groups.items) }
+            → AreTrue (BarsLine S listed (row_at listed i)) true bars.now → AreTrue (ReachesLine (row_at listed i)) false reached.now
+            → AreGroups S listed self.new.ids.items self.new.groups.items) }
     {
         let place = self.ids.len();
         self.open_group(alloc, 8 * bars.len())?;
@@ -337,11 +370,12 @@ impl Room {
             reached: vec![in alloc; 0; 2 * width]?,
             bar_reads: Vec::new(alloc),
             reach_reads: Vec::new(alloc),
+            left: Left::new(alloc),
         })
     }
 
     /// Asks a row that is to be sifted with a table. Rows near it are looked for only where more pairs are left without
-    /// them than the row has entries: each search takes about as long as a pair.
+    /// them than the row has entries, and only at items that some of the rows that are left reach.
     fn ask(
         &mut self,
         system: &System,
@@ -358,22 +392,26 @@ impl Room {
         ensures room { IsRoom system.now.equations self.new }
         ensures asked { OnOk result (AreAsked system.now.equations listed.now.rows (row_at listed.now.rows i) self.new) }
     {
-        self.ask_row(system, listed, tree, i, false)?;
+        self.ask_row(system, listed, tree, i, table, false)?;
         let width = system.width();
-        let left = table.left(16 * width as usize, &self.bar_reads, &self.reach_reads);
+        let count = 16 * width as usize;
+        let left = self
+            .left
+            .fill(table, count, &self.bar_reads, &self.reach_reads)?;
         if left <= u64::from(width) {
             return Ok(());
         }
-        self.ask_row(system, listed, tree, i, true)
+        self.ask_row(system, listed, tree, i, table, true)
     }
 
-    /// Asks a row, and for the rows near it where that is wanted.
+    /// Asks a row, and for the rows near it where that is wanted: the rows of the table that are left are known then.
     fn ask_row(
         &mut self,
         system: &System,
         listed: &Pool,
         tree: &Tree,
         i: u32,
+        table: &Table,
         near: bool,
     ) -> Result<(), AllocError>
         requires indexed { HoldsRows tree.now listed.now }
@@ -389,7 +427,9 @@ impl Room {
             listed,
             tree,
             row,
+            table,
             near,
+            &mut self.left,
             &mut self.probe,
             &mut self.bars,
         );

@@ -7,18 +7,20 @@ pub returns-in-Ok : goal.returns-in-Ok
 returns-in-Ok c =
     let u : IsSieveTo c.args.system.now.equations c.args.listed.now.rows c.args.norm c.len-self.result c.sift_rows.new.self =
     subst (λ (n : ℕ). IsSieveTo c.args.system.now.equations c.args.listed.now.rows c.args.norm n c.sift_rows.new.self) (sym c.len-self.ensures) c.in-Ok.ensures.upto in
-    record { held = record {
-      within = omega (arith, c.len-self.ensures);
-      upto = record {
-        plus_table = u.plus_table;
-        minus_table = u.minus_table;
-        shelves_are = u.shelves_are;
-        closed = u.closed;
-        reach_count = u.reach_count;
-        reaches_are = u.reaches_are;
-        sifted = u.sifted;
+    record {
+      held = record {
+        within = omega (arith, c.len-self.ensures);
+        upto = record {
+          plus_table = u.plus_table;
+          minus_table = u.minus_table;
+          shelves_are = u.shelves_are;
+          closed = u.closed;
+          reach_count = u.reach_count;
+          reaches_are = u.reaches_are;
+          sifted = u.sifted;
+        };
       };
-    }; }
+    }
 
 pub sift_rows-requires-clause-within : goal.sift_rows-requires-clause-within
 sift_rows-requires-clause-within c = (c.turn.ensures c.args.system.now.equations c.args.listed.now.rows c.requires.held).within
@@ -27,4 +29,4 @@ pub sift_rows-requires-clause-upto : goal.sift_rows-requires-clause-upto
 sift_rows-requires-clause-upto c = (c.turn.ensures c.args.system.now.equations c.args.listed.now.rows c.requires.held).upto
 
 pub returns-in-Err : goal.returns-in-Err
-returns-in-Err c = record { held = new_sieve c.args.system.now.equations c.args.listed.now.rows c.args.norm c.begin.new.self c.begin.ensures; }
+returns-in-Err c = record { held = new_sieve c.args.system.now.equations c.args.listed.now.rows c.args.norm c.begin.new.self c.begin.ensures }

@@ -1,9 +1,8 @@
-use Rattle.std.proofs.Common.{◌≡◌, ◌∙◌, ◌<◌, ◌%◌, ℕ, List, [], arith, ap, sym, subst, subst₂, get_or, length, drop}
+use Rattle.std.proofs.Common.{◌≡◌, ◌∙◌, ◌<◌, ℕ, List, arith, ap, sym, subst, subst₂, length, drop}
 use Rattle.lift_core.specs.Stages.{has_positive_last, has_negative_last}
 use Rattle.stage_store.specs.Classes.{ClassValue, AreClasses}
 use Rattle.stage_store.specs.Stage.{IsStage, norm_of}
 use Rattle.stage_store.specs.Opened.{AreOpened, IsOpen}
-use Rattle.stage_store.proofs.Classes.{get_or-default}
 use Rattle.stage_store.proofs.StageFields.{classes_of, stage_of, parts_under}
 use Rattle.stage_store.proofs.ClosedNorm.{value_of}
 use Rattle.stage_store.proofs.Opening.{opened_is_open}
