@@ -9,7 +9,7 @@ use std::alloc::{AllocError, Global};
 use std::thread::Threads;
 use worker_gate::{Gate, run_norm};
 
-/// A third pass and each further one pays for its thread from so many pairs more that are looked at: to start one costs
+/// A second pass and each further one pays for its thread from so many pairs more that are looked at: to start one costs
 /// about as much.
 const PAIRS_A_PASS: u64 = 256;
 
@@ -22,7 +22,7 @@ fn passes_for(pairs: u64, left: u64, workers: u32) -> u32
     ensures most { result ≤ workers }
 {
     let blocks = blocks_of(pairs);
-    match u32::try_from(blocks.min(2 + left / PAIRS_A_PASS)) {
+    match u32::try_from(blocks.min(1 + left / PAIRS_A_PASS)) {
         Ok(passes) => workers.min(passes.max(1)),
         Err(_) => workers,
     }
