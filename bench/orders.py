@@ -1,14 +1,16 @@
 #!/usr/bin/env python3
 """Runs the same systems with their rows in several orders, and prints the table of docs/ORDER-OF-ROWS.md.
 
-    python3 bench/orders.py --bin DIR [--only WORD] [--timeout S] [--seconds]
+    python3 bench/orders.py --bin DIR [--only WORD] [--timeout S] [--seconds] [--check PAGE]
 
 DIR has the programs graver, hilbert and zsolve. Pairs and solutions are the same in every run and on every machine. With
-`--seconds` there is a column of user and system seconds of one worker, which are those of this run.
+`--seconds` there is a column of user and system seconds of one worker, which are those of this run. With `--check` the status is 1
+where the page lacks a line that is printed.
 """
 import argparse
 import itertools
 import os
+import sys
 import tempfile
 
 from compare import measure
@@ -56,12 +58,12 @@ def drawn():
 
 
 def transport():
-    """Three sources and five sinks: what each gives and takes is an equation with a right side."""
-    across, down = sums(3, 5)
-    supply, demand = [4, 5, 6], [3, 3, 3, 3, 3]
+    """Two sources and four sinks: what each gives and takes is an equation with a right side."""
+    across, down = sums(2, 4)
+    supply, demand = [4, 4], [2, 2, 2, 2]
     for name, rows, right in (("sources first", across + down, supply + demand),
                               ("sinks first", down + across, demand + supply)):
-        yield "transport, 3 to 5", "zsolve", name, {"mat": rows, "rhs": [right], "sign": [[1] * 15]}
+        yield "transport, 2 to 4", "zsolve", name, {"mat": rows, "rhs": [right], "sign": [[1] * 8]}
 
 
 def knapsack():
@@ -104,7 +106,10 @@ def main():
     parser.add_argument("--only", default="")
     parser.add_argument("--timeout", type=float, default=60)
     parser.add_argument("--seconds", action="store_true")
+    parser.add_argument("--check", metavar="PAGE")
     args = parser.parse_args()
+    page = open(args.check, encoding="utf-8").read().split("\n") if args.check else None
+    lacks = 0
     print("| System | Order of the rows | Solutions | Pairs |" + " Seconds |" * args.seconds)
     print("|---|---|---|---|" + "---|" * args.seconds)
     for name, tool, order, files in systems():
@@ -114,8 +119,13 @@ def main():
         cells = f"{found[0]:,} | {found[1]:,} |" if found else "| over |"
         if args.seconds:
             cells += f" {found[2]:.2f} |" if found else " |"
-        print(f"| {name} (`{tool}`) | {order} | {cells}", flush=True)
+        line = f"| {name} (`{tool}`) | {order} | {cells}"
+        print(line, flush=True)
+        if page is not None and line not in page:
+            lacks += 1
+            print(f"{args.check} lacks this line")
+    return 1 if lacks else 0
 
 
 if __name__ == "__main__":
-    main()
+    sys.exit(main())
