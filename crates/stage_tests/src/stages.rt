@@ -1,0 +1,105 @@
+//! Stages of one equation over three columns, norm by norm.
+
+ghost use Rattle.std.specs.Prelude.{All, IfOk};
+ghost use Rattle.int_vector.specs.Range.{IsCap};
+ghost use Rattle.lift_core.specs.ToolSystems.{IsSign};
+ghost use Rattle.row_pool.specs.Rows.{InRange};
+
+use lift_core::{System, Tool};
+use row_pool::RowId;
+use stage_store::{Lifted, Next, Stage};
+use std::alloc::{AllocError, Global};
+use std::test::Fail;
+
+// More norms than a stage of these tests has.
+const NORMS: u32 = 100;
+
+/// The first stage of an equation over columns of this sign and this cap.
+pub fn first(alloc: Global, row: [i64; 3], sign: i8, cap: Option<u64>) -> Result<Stage, AllocError>
+    requires row { All InRange row }
+    requires sign { IsSign sign }
+    requires cap { IsCap cap }
+{
+    let rows = Vec::from_slice(alloc, &row)?;
+    let signs = Vec::from_slice(alloc, &[sign; 3])?;
+    let caps = Vec::from_slice(alloc, &[cap; 3])?;
+    match Stage::first(alloc, System::build(Tool::Graver, 3, 3, rows, signs, caps))? {
+        Lifted::Next(stage) => Ok(stage),
+        Lifted::Last(_) => Err(AllocError),
+    }
+}
+
+/// Closes the next norm. False where none is left.
+pub fn close_next(alloc: Global, stage: &mut Stage) -> Result<bool, AllocError> {
+    let Some(Next::Norm(norm)) = stage.next_norm() else {
+        return Ok(false);
+    };
+    let closed = stage.sums(alloc, norm)?;
+    match stage.publish(&closed, 1_000) {
+        Ok(()) => Ok(true),
+        Err(_) => Err(AllocError),
+    }
+}
+
+/// Closes so many norms, or all.
+pub fn close_some(alloc: Global, stage: &mut Stage, norms: u32) -> Result<(), AllocError> {
+    for _ in 0..norms {
+        close_next(alloc, stage)?;
+    }
+    Ok(())
+}
+
+// Adds a line: the norm, the number of listed rows and the used pairs.
+fn push_norm(alloc: Global, text: &mut String, stage: &Stage) -> Result<(), AllocError> {
+    let line = format!(in alloc; "{} {} {}\n", stage.norm(), stage.len(), stage.used())?;
+    text.push_str(line.as_str())
+}
+
+// Adds a line for each listed row.
+fn push_rows(alloc: Global, text: &mut String, stage: &Stage) -> Result<(), AllocError> {
+    for place in 0..stage.len() {
+        let line = format!(in alloc; "{:?}\n", stage.row(RowId(place)))?;
+        text.push_str(line.as_str())?;
+    }
+    Ok(())
+}
+
+/// Closes all norms that are left. A line for each norm, and one for each row that is listed then.
+pub fn story(alloc: Global, stage: &mut Stage) -> Result<String, AllocError> {
+    let mut text = String::new(alloc);
+    for _ in 0..NORMS {
+        if !close_next(alloc, stage)? {
+            break;
+        }
+        push_norm(alloc, &mut text, stage)?;
+    }
+    push_rows(alloc, &mut text, stage)?;
+    Ok(text)
+}
+
+// The number of solutions and of pairs, where no norm and no equation is left.
+fn finish(stage: Stage) -> Option<(u32, u64)> {
+    let None = stage.next_norm() else {
+        return None;
+    };
+    match stage.lift() {
+        Ok(Lifted::Last(finish)) => Some((finish.rows.len(), finish.pairs)),
+        _ => None,
+    }
+}
+
+// The equation x1 - 2 x2 = 0. The last column of a row is its product with the equation.
+#[test]
+fn one_equation_norm_by_norm(rt: HostRuntime) -> Result<(), Fail> {
+    let mut stage = first(rt.alloc(), [1, -2, 0], 1, None)?;
+    let told = story(rt.alloc(), &mut stage)?;
+    let end = finish(stage);
+    assert_eq!(rt;
+        (told.as_str(), end),
+        (
+            "1 3 0\n2 4 1\n3 5 2\n[0, 0, 1, 0]\n[0, 1, 0, -2]\n[1, 0, 0, 1]\n[1, 1, 0, -1]\n[2, 1, 0, 0]\n",
+            Some((2, 2))
+        )
+    );
+    Ok(())
+}
