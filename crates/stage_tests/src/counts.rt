@@ -30,8 +30,13 @@ fn plain_count(rows: &Pool, most: u64) -> u64 {
     count
 }
 
-// The least norm up to 30 for which the two counts of a stage differ.
-fn first_difference(alloc: Global, stage: &Stage) -> Result<Option<u64>, AllocError> {
+// The least norm up to 30 for which the two counts of a stage differ, once so many norms are closed.
+fn first_difference(
+    alloc: Global,
+    stage: &mut Stage,
+    norms: u32,
+) -> Result<Option<u64>, AllocError> {
+    close_some(alloc, stage, norms)?;
     stage.keeps();
     let rows = listed_rows(alloc, stage)?;
     for most in 0..30 {
@@ -56,16 +61,15 @@ fn entry(number: u64) -> i64
     (number % 19) as i64 - 9
 }
 
-// A stage of a generated equation, with so many norms closed.
-fn generated(alloc: Global, number: u64, norms: u32) -> Result<Stage, AllocError> {
+// The same of the stage of a generated equation.
+fn generated_difference(alloc: Global, number: u64, norms: u32) -> Result<Option<u64>, AllocError> {
     let row = [
         entry(number >> 52),
         entry(number >> 40),
         entry(number >> 28),
     ];
     let mut stage = first(alloc, row, 2, None)?;
-    close_some(alloc, &mut stage, norms)?;
-    Ok(stage)
+    first_difference(alloc, &mut stage, norms)
 }
 
 // The first number of norms after which the two counts differ, each time of another equation.
@@ -73,8 +77,7 @@ fn first_miscount(alloc: Global) -> Result<Option<u32>, AllocError> {
     let mut number = 3;
     for norms in 1..12 {
         number = next(number);
-        let stage = generated(alloc, number, norms)?;
-        if first_difference(alloc, &stage)?.is_some() {
+        if generated_difference(alloc, number, norms)?.is_some() {
             return Ok(Some(norms));
         }
     }

@@ -5,7 +5,7 @@ ghost use Rattle.lift_core.specs.ToolSystems.{width};
 
 use crate::stages::{close_some, first, story};
 use row_pool::{Pool, RowId};
-use stage_store::Stage;
+use stage_store::{Next, Stage};
 use std::alloc::{AllocError, Global};
 use std::test::Fail;
 
@@ -55,31 +55,53 @@ fn rebuilt(alloc: Global, stage: &Stage) -> Result<Stage, AllocError> {
     )
 }
 
-// What a stage tells after so many norms, and what the stage that is built anew from its rows tells.
+// What the stage that is built anew from these rows tells.
+fn retold(alloc: Global, stage: &Stage) -> Result<String, AllocError> {
+    let mut other = rebuilt(alloc, stage)?;
+    story(alloc, &mut other)
+}
+
+// What a stage tells after so many norms, and what the stage that is built anew then tells.
+fn both_told(alloc: Global, stage: &mut Stage, norms: u32) -> Result<(String, String), AllocError> {
+    close_some(alloc, stage, norms)?;
+    let other = retold(alloc, stage)?;
+    Ok((story(alloc, stage)?, other))
+}
+
+// The same of one equation.
 fn both(alloc: Global, norms: u32) -> Result<(String, String), AllocError> {
     let mut stage = first(alloc, [3, 5, -7], 2, None)?;
-    close_some(alloc, &mut stage, norms)?;
-    let mut other = rebuilt(alloc, &stage)?;
-    Ok((story(alloc, &mut stage)?, story(alloc, &mut other)?))
+    both_told(alloc, &mut stage, norms)
+}
+
+// The next norm, the number of listed rows and the used pairs after so many norms.
+fn state_after(
+    alloc: Global,
+    stage: &mut Stage,
+    norms: u32,
+) -> Result<(Option<Next>, u32, u64), AllocError> {
+    close_some(alloc, stage, norms)?;
+    Ok((stage.next_norm(), stage.len(), stage.used()))
+}
+
+// The same of the one equation, whose stage closes 13 norms.
+fn last_state(alloc: Global) -> Result<(Option<Next>, u32, u64), AllocError> {
+    let mut stage = first(alloc, [3, 5, -7], 2, None)?;
+    state_after(alloc, &mut stage, 13)
 }
 
 #[test]
 fn rebuilt_stages_go_on_alike(rt: HostRuntime) -> Result<(), Fail> {
     for norms in [0, 3, 12, 13] {
-        let (told, retold) = both(rt.alloc(), norms)?;
-        assert_eq!(rt; retold.as_str(), told.as_str());
+        let (told, other) = both(rt.alloc(), norms)?;
+        assert_eq!(rt; other.as_str(), told.as_str());
     }
     Ok(())
 }
 
-// That the stage closes 13 norms, lists 48 rows and uses 256 pairs was counted by a program in another language.
+// That no norm is left then, 48 rows are listed and 256 pairs used was counted by a program in another language.
 #[test]
 fn last_norm_is_the_thirteenth(rt: HostRuntime) -> Result<(), Fail> {
-    let mut stage = first(rt.alloc(), [3, 5, -7], 2, None)?;
-    close_some(rt.alloc(), &mut stage, 13)?;
-    assert_eq!(rt;
-        (stage.next_norm(), stage.len(), stage.used()),
-        (None, 48, 256)
-    );
+    assert_eq!(rt; last_state(rt.alloc())?, (None, 48, 256));
     Ok(())
 }

@@ -1,7 +1,7 @@
 //! The sums that `gather` gives for the pairs of a norm, range by range, beside the plain definition: all pairs of listed rows
 //! with that norm whose sum has no opposite signs, stays within the caps and has no listed row below it.
 
-ghost use Rattle.std.specs.Prelude.{◌≡◌, ◌+◌, ◌≤◌, IfOk, OnOk, nat_abs};
+ghost use Rattle.std.specs.Prelude.{◌≡◌, ◌+◌, ◌≤◌, OnOk};
 ghost use Rattle.lift_core.specs.ToolSystems.{width};
 
 use crate::plain::{has_new_sum, is_among, is_sum};
@@ -158,26 +158,30 @@ fn agreeing(alloc: Global, stage: &mut Stage, cap: u64) -> Result<(u32, bool), A
     Ok((NORMS, false))
 }
 
-#[test]
-fn sums_of_integers_agree(rt: HostRuntime) -> Result<(), Fail> {
-    let alloc = rt.alloc();
+// The same of a stage over the integers. Each way out at which a stage is alive is dear to prove, so there is one.
+fn integers(alloc: Global) -> Result<(u32, bool), AllocError> {
     let mut stage = first(alloc, [3, 5, -7], 2, None)?;
-    assert_eq!(rt; agreeing(alloc, &mut stage, NO_CAP)?, (13, true));
-    Ok(())
+    agreeing(alloc, &mut stage, NO_CAP)
 }
 
-#[test]
-fn sums_of_naturals_agree(rt: HostRuntime) -> Result<(), Fail> {
-    let alloc = rt.alloc();
+// Over the natural numbers.
+fn naturals(alloc: Global) -> Result<(u32, bool), AllocError> {
     let mut stage = first(alloc, [7, 4, -9], 1, None)?;
-    assert_eq!(rt; agreeing(alloc, &mut stage, NO_CAP)?, (17, true));
-    Ok(())
+    agreeing(alloc, &mut stage, NO_CAP)
+}
+
+// Over the integers from -4 to 4.
+fn capped(alloc: Global) -> Result<(u32, bool), AllocError> {
+    let mut stage = first(alloc, [-8, 6, 5], 2, Some(4))?;
+    agreeing(alloc, &mut stage, 4)
 }
 
 #[test]
-fn sums_under_a_cap_agree(rt: HostRuntime) -> Result<(), Fail> {
+fn gathered_sums_agree(rt: HostRuntime) -> Result<(), Fail> {
     let alloc = rt.alloc();
-    let mut stage = first(alloc, [-8, 6, 5], 2, Some(4))?;
-    assert_eq!(rt; agreeing(alloc, &mut stage, 4)?, (13, true));
+    assert_eq!(rt;
+        (integers(alloc)?, naturals(alloc)?, capped(alloc)?),
+        ((13, true), (17, true), (13, true))
+    );
     Ok(())
 }
