@@ -1,8 +1,10 @@
 //! Drives the real folder and the folder in memory by the same sequences of calls, drawn with a fixed seed, and says whether
-//! they ever answered or held something different.
+//! they ever answered something different, or held something different after a sequence.
 #![tactic(auto)]
 
 use outside::{DirFolder, Folder, MemFolder, PutEnd, Sink, StdSink};
+use std::fs;
+use std::io::ErrorKind;
 use std::process::ExitCode;
 
 const SEQUENCES: u32 = 2_000;
@@ -115,29 +117,47 @@ fn hold_alike<A: Folder, B: Folder>(real: &mut A, memory: &mut B) -> Result<bool
     Ok(true)
 }
 
-// Makes one sequence of calls on both, and says whether they answer and then hold alike.
+// Makes one sequence of calls on both, and says whether they answer and then hold alike. What they hold is asked for behind
+// the last call alone, since to ask is a call that lets go the handle that the real folder keeps between calls.
 fn sequence<A: Folder, B: Folder>(
     real: &mut A,
     memory: &mut B,
     draw: &mut Draw,
 ) -> Result<bool, PutEnd> {
     for _ in 0..CALLS {
-        if !call(real, memory, draw)? || !hold_alike(real, memory)? {
+        if !call(real, memory, draw)? {
             return Ok(false);
         }
     }
-    Ok(true)
+    hold_alike(real, memory)
 }
 
-// Makes all sequences, each with a real folder that has opened no file yet.
+// Removes the real files.
+fn remove_files(rt: &HostRuntime) -> Result<(), PutEnd> {
+    for name in NAMES {
+        match fs::remove_file(rt, name) {
+            Ok(()) => {}
+            Err(e) if e.kind() == ErrorKind::NotFound => {}
+            Err(_) => return Err(PutEnd::Failed),
+        }
+    }
+    Ok(())
+}
+
+// Makes all sequences, each with a real folder that has opened no file yet. One in four begins without files.
 fn sequences(rt: &HostRuntime) -> Result<bool, PutEnd> {
     let mut memory = MemFolder::new(rt.alloc(), Vec::new(rt.alloc()));
     let mut draw = Draw { state: 20_031_127 };
     for _ in 0..SEQUENCES {
+        if draw.below(4) == 0 {
+            remove_files(rt)?;
+            memory = MemFolder::new(rt.alloc(), Vec::new(rt.alloc()));
+        }
         if !sequence(&mut DirFolder::new(rt), &mut memory, &mut draw)? {
             return Ok(false);
         }
     }
+    remove_files(rt)?;
     Ok(true)
 }
 
