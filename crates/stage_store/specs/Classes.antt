@@ -76,7 +76,9 @@ sign_test false z = has_negative_last z
 -- ---- the numbering
 -- the pairs of norm e in order: the first rows as they are listed, and each with its second rows as they are listed
 abbrev pub pairs_of : List (List ℤ) → ℕ → List (List ℤ × List ℤ)
-pairs_of listed e = flat_map (λ f. map (λ g. (f, g)) (filter (λ g. stage_norm f + stage_norm g == e) (filter has_negative_last listed))) (filter has_positive_last listed)
+pairs_of listed e =
+    flat_map (λ f. map (λ g. (f, g)) (filter (λ g. stage_norm f + stage_norm g == e) (filter has_negative_last listed)))
+    (filter has_positive_last listed)
 
 -- the p-th pair of norm e is that of the rows at places i and j
 pub record IsPairAt (listed : List (List ℤ)) (e p i j : ℕ) : Type 0 where

@@ -38,7 +38,9 @@ StartsAt S k used solutions (Last f) = (length S.equations.rows < k) × IsFinish
 -- the same, or the first solution whose product with row k leaves the range
 abbrev pub StartsOr : ToolSystem → ℕ → ℕ → List (List ℤ) → Result Lifted LiftEnd → Type 0
 StartsOr S k used solutions (Ok l) = StartsAt S k used solutions l
-StartsOr S k used solutions (Err (Overflow stage first)) = (k ≤ length S.equations.rows) × (stage ≡ k) × (find (leaves_range (row S.equations k)) solutions ≡ Some first)
+StartsOr S k used solutions (Err (Overflow stage first)) =
+    (k ≤ length S.equations.rows) × (stage ≡ k)
+    × (find (leaves_range (row S.equations k)) solutions ≡ Some first)
 StartsOr S k used solutions (Err Memory) = Unit {0}
 
 -- each solution with its product with row k, and no product leaves the range

@@ -77,7 +77,9 @@ pub record AreOpened (plus minus : List ClassValue) (e : ℕ) (kept : List KeptP
 -- the open pairs of norm e: in order of their numbers, and each pair of the norm that has an irreducible sum
 pub record IsOpen (s : StageValue) (e : ℕ) (opens : List OpenPair) : Type 0 where
   pub sound : (k : ℕ) (d : OpenPair) → k < length opens
-      → ((slice_index_or opens k d).number < length (pairs_of s.listed e)) × IsPairAt s.listed e (slice_index_or opens k d).number (slice_index_or opens k d).first (slice_index_or opens k d).second
+      → ((slice_index_or opens k d).number < length (pairs_of s.listed e))
+      × IsPairAt s.listed e (slice_index_or opens k d).number (slice_index_or opens k d).first
+      (slice_index_or opens k d).second
   pub ascending : IsNonDecreasingBy open_number opens
   pub whole : (p : ℕ) (z : List ℤ) → p < length (pairs_of s.listed e) → IsSumOf s.system.equations s.listed (pair_at s e p).0 (pair_at s e p).1 z
       → (x : OpenPair) × Contains opens x × (x.number ≡ p)

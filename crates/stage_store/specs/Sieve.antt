@@ -74,7 +74,8 @@ AreSized n groups = (a : ℕ) (d : Group) → a < length groups → IsSized n (s
 -- a row that has a bit has one in a line that is read
 abbrev pub IsDead : Group → List ℕ → List ℕ → ℕ → Type 0
 IsDead g bar_reads reach_reads bits = (r : ℕ) → r < 64 → bit_at bits r ≡ 1
-    → ((a : ℕ) × (a < length bar_reads) × HasBit g.bars (slice_index_or bar_reads a 0) r) ⊎ ((a : ℕ) × (a < length reach_reads) × HasBit g.reached (slice_index_or reach_reads a 0) r)
+    → ((a : ℕ) × (a < length bar_reads) × HasBit g.bars (slice_index_or bar_reads a 0) r)
+    ⊎ ((a : ℕ) × (a < length reach_reads) × HasBit g.reached (slice_index_or reach_reads a 0) r)
 
 -- the places of the first n rows that pass the test, with lines over each 64 of them
 pub record IsTable (S : LinearSystem) (listed : List (List ℤ)) (test : List ℤ → Bool) (n : ℕ) (t : Table) : Type 0 where

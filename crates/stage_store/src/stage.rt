@@ -167,9 +167,23 @@ impl Model for Stage {
 
     ghost Value = { StageValue };
 
-    ghost view = { λ s. record { system = s.system; number = s.number; norm = s.norm; before = s.before; listed = s.listed.rows; waiting = drop s.waited s.waiting.rows } };
+    ghost view = { λ s. record {
+      system = s.system;
+      number = s.number;
+      norm = s.norm;
+      before = s.before;
+      listed = s.listed.rows;
+      waiting = drop s.waited s.waiting.rows;
+    } };
 
-    ghost invariant = { λ s. Holds (record { system = s.system; number = s.number; norm = s.norm; before = s.before; listed = s.listed.rows; waiting = drop s.waited s.waiting.rows }) s.listed s.tree s.waiting s.waited s.used s.plus.items s.minus.items s.sieve s.following s.tally s.ahead };
+    ghost invariant = { λ s. Holds (record {
+      system = s.system;
+      number = s.number;
+      norm = s.norm;
+      before = s.before;
+      listed = s.listed.rows;
+      waiting = drop s.waited s.waiting.rows;
+    }) s.listed s.tree s.waiting s.waited s.used s.plus.items s.minus.items s.sieve s.following s.tally s.ahead };
 }
 
 impl Stage {
@@ -461,7 +475,8 @@ impl Stage {
     /// A listed row that is below z, and one visit more for each row that was compared.
     pub fn find_below(&self, z: &[i64], visits: &mut Visits) -> Option<RowId>
         requires { length z.now ≡ width self.now.system.equations + 1 }
-        ensures { MatchOption result (IsIrreducible self.now.listed z.now) (λ i. (i.0 < length self.now.listed) × (slice_index_or self.now.listed i.0 [] ⊑ z.now)) }
+        ensures { MatchOption result (IsIrreducible self.now.listed z.now)
+            (λ i. (i.0 < length self.now.listed) × (slice_index_or self.now.listed i.0 [] ⊑ z.now)) }
     {
         self.tree.find_below(&self.listed, z, visits)
     }
