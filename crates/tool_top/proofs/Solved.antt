@@ -1,16 +1,13 @@
 -- The theorem of a run from nothing, drawn from what every run leaves.
-use Rattle.std.specs.Prelude.{codes, IsSome, ◌&&◌, is_none}
+use Rattle.std.specs.Prelude.{codes, ◌&&◌, is_none}
 use Rattle.std.specs.Option.{IsSomeAnd}
 use Rattle.std.specs.List.{AllByRecursion}
-use Rattle.std.proofs.Common.{◌≡◌, ◌∙◌, ℕ, ℤ, List, [], ◌∷◌, ◌++◌, length, Bool, true, false, Option, None, Some, Result, Ok, Err, IfSome, IsOkAnd, refl, ap, sym, subst, arith, length-append}
-use Rattle.std.specs.FinMap.{get}
+use Rattle.std.proofs.Common.{◌≡◌, ◌∙◌, ◌+◌, ℕ, List, length, Bool, true, false, Option, None, Some, Result, Ok, Err, IfSome, IsOkAnd, ap, sym, subst, arith, length-append}
 use Rattle.outside.specs.Files.{Files, written}
 use Rattle.lift_core.specs.Systems.{ToolSystem}
-use Rattle.lift_core.specs.Columns.{Homogeneous, Inhomogeneous}
 use Rattle.lift_core.specs.declared.Tool.{Tool}
 use Rattle.lift_core.specs.declared.Tool.TheVariants.{Graver, Hilbert, Zsolve}
 use Rattle.system_shape.specs.Problem.{UserSystem}
-use Rattle.system_shape.specs.Shape.{user_system}
 use Rattle.system_shape.specs.declared.files.Input.{Input}
 use Rattle.system_files.specs.Files.{◌>>=◌}
 use Rattle.system_files.specs.Inputs.{accepted_in}
@@ -19,22 +16,20 @@ use Rattle.backups.specs.declared.starts.Start.{Start}
 use Rattle.backups.specs.declared.starts.Start.TheVariants.{Fresh}
 use Rattle.backups.proofs.Whole.{written_file, other_file}
 use Rattle.tool_words.specs.declared.jobs.Job.{Job}
-use Rattle.tool_top.specs.declared.ends.Part.{Part}
 use Rattle.tool_top.specs.declared.ends.Part.TheVariants.{Gra, Hil, Zhom, Zinhom}
 use Rattle.tool_top.specs.declared.ends.End.{End}
 use Rattle.tool_top.specs.declared.ends.End.TheVariants.{Done}
 use Rattle.tool_top.specs.Names.{file_name}
 use Rattle.tool_top.specs.Plan.{Plan, plan_of, plan_for, user_of, system_of_plan, project_of, answered, input_in, stored_of}
 use Rattle.tool_top.specs.Outputs.{OutputFile, file_of, AreOutputsOf, AreOutputs, written_all, to_write}
-use Rattle.tool_top.specs.Expected.{Starts, OnDone, Finishes}
+use Rattle.tool_top.specs.Expected.{Starts, OnDone}
 use Rattle.tool_top.specs.Left.{HasWritten}
 use Rattle.tool_top.specs.Solved.{IsHeld, HoldsSolutions, Solves}
 
 -- the two files of zsolve have names of their own
 names_differ : (project : List ℕ) → file_name project Zhom ≡ file_name project Zinhom → ⊥
 names_differ project e =
-    let lengths : length project + 5 ≡ length project + 7
-        lengths = sym (length-append project (codes ".zhom")) ∙ ap length e ∙ length-append project (codes ".zinhom")
+    let lengths : length project + 5 ≡ length project + 7 = sym (length-append project (codes ".zhom")) ∙ ap length e ∙ length-append project (codes ".zinhom")
     in omega (arith, lengths)
 
 -- files that were written are held
@@ -51,29 +46,25 @@ held_all Zsolve U n project files outputs (hom, inhom, first, second, is) =
     let one = written (file_name project Zhom) (file_of Zhom n hom).text files in
     subst (λ os. AllByRecursion (IsHeld project (written_all project os files)) os) (sym is) (
       other_file (file_name project Zinhom) (file_name project Zhom) (file_of Zinhom n inhom).text one (names_differ project)
-      ∙ written_file (file_name project Zhom) (file_of Zhom n hom).text files,
-      written_file (file_name project Zinhom) (file_of Zinhom n inhom).text one,
-      tt,
+          ∙ written_file (file_name project Zhom) (file_of Zhom n hom).text files,
+      (written_file (file_name project Zinhom) (file_of Zinhom n inhom).text one, tt),
     )
 
 -- a run that does not resume starts from nothing
 starts_fresh : (S : ToolSystem) (p : Plan) (start : Start) (tables : Option ℕ) (resume : Bool) → tables ≡ None
     → resume ≡ false → Starts (is_none tables && resume) S p.stored start → start ≡ Fresh S
 starts_fresh S p start None false none fresh starts = starts
-starts_fresh S p start None true none () starts
-starts_fresh S p start (Some k) resume () fresh starts
+starts_fresh S p start None true none fresh starts = cc
+starts_fresh S p start (Some k) resume none fresh starts = cc
 
 -- a plan's run from nothing
 plan_solved : (p : Plan) (before : Files) (after : Option Files) → p.job.tables ≡ None
     → p.job.resume ≡ false → HasWritten p before after
     → IsSomeAnd after (HoldsSolutions p.tool (project_of p.job) p.input)
 plan_solved p before after none fresh w =
-    let is : w.finishes.start ≡ Fresh (system_of_plan p)
-        is = starts_fresh (system_of_plan p) p w.finishes.start p.job.tables p.job.resume none fresh w.finishes.starts in
-    let wanted : AreOutputsOf p.tool (user_of p) p.input.mat.cols w.outputs
-        wanted = subst (λ s. AreOutputs p s w.outputs) is w.finishes.wanted in
-    let whole : after ≡ Some (written_all (project_of p.job) w.outputs w.files)
-        whole = subst (λ t. after ≡ Some (written_all (project_of p.job) (to_write t w.outputs) w.files)) none w.whole in
+    let is : w.finishes.start ≡ Fresh (system_of_plan p) = starts_fresh (system_of_plan p) p w.finishes.start p.job.tables p.job.resume none fresh w.finishes.starts in
+    let wanted : AreOutputsOf p.tool (user_of p) p.input.mat.cols w.outputs = subst (λ s. AreOutputs p s w.outputs) is w.finishes.wanted in
+    let whole : after ≡ Some (written_all (project_of p.job) w.outputs w.files) = subst (λ t. after ≡ Some (written_all (project_of p.job) (to_write t w.outputs) w.files)) none w.whole in
     subst (λ o. IsSomeAnd o (HoldsSolutions p.tool (project_of p.job) p.input)) (sym whole) (record {
       outputs = w.outputs;
       wanted = wanted;
@@ -88,7 +79,7 @@ planned_by tool job files input =
 -- what is left where the files are accepted, and where they are not
 read_solved : (tool : Tool) (job : Job) (before : Files) (after : Option Files) → job.tables ≡ None
     → job.resume ≡ false → (r : Result Input InputFault)
-    → IsOkAnd (answered r >>= (λ input. Ok {E = End} (planned_by tool job before input))) (λ p. HasWritten p before after)
+    → IsOkAnd (answered r >>= (λ input. Ok (planned_by tool job before input))) (λ p. HasWritten p before after)
     → IsOkAnd r (λ input. IsSomeAnd after (HoldsSolutions tool (project_of job) input))
 read_solved tool job before after none fresh (Ok input) h =
     plan_solved (planned_by tool job before input) before after none fresh h
@@ -100,7 +91,7 @@ job_solved : (tool : Tool) (job : Job) (before : Files) (after : Option Files)
     → Solves tool (Some job) before after
 job_solved tool job before after h none fresh =
     read_solved tool job before after none fresh (accepted_in tool (project_of job) before) (subst (λ t.
-    IsOkAnd (answered (input_in tool t (project_of job) before) >>= (λ input. Ok {E = End} (planned_by tool job before input)))
+    IsOkAnd (answered (input_in tool t (project_of job) before) >>= (λ input. Ok (planned_by tool job before input)))
     (λ p. HasWritten p before after)) none h)
 
 -- a job, where the words ask for one

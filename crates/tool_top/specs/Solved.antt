@@ -1,5 +1,5 @@
 -- The theorem of a run from nothing: what the project's output files hold when it ends well.
-use Rattle.std.specs.Prelude.{◌≡◌, ℕ, List, Bool, false, Option, None, Some, IsOkAnd}
+use Rattle.std.specs.Prelude.{◌≡◌, ℕ, List, false, Option, None, Some, IsOkAnd}
 use Rattle.std.specs.Option.{IsSomeAnd}
 use Rattle.std.specs.List.{AllByRecursion}
 use Rattle.std.specs.FinMap.{get}
