@@ -8,7 +8,6 @@ pub mod Filling
 pub mod Candidates
 pub mod Opposite
 pub mod Going
-pub mod Texts
 pub mod Concluding
 pub mod FullVectors
 pub mod RowWalks

@@ -3,3 +3,4 @@ pub mod SelectedRows
 pub mod Search
 pub mod WantedLists
 pub mod GridText
+pub mod Sequences

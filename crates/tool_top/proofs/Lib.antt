@@ -2,5 +2,4 @@ pub mod Cuts
 pub mod Conclusions
 pub mod Finished
 pub mod Wanted
-pub mod Sequences
 pub mod Speaking

@@ -2,7 +2,7 @@
 use Rattle.std.proofs.Common.{◌∷◌, [], codes}
 use Rattle.std.proofs.lemmas.Result.{err_from_is_err_and, on_ok_weaker, on_err_weaker}
 use Rattle.decompose_tool.specs.Messages.{entries}
-use Rattle.decompose_tool.proofs.Texts.{parts_first, parts_second, parts_both}
+use Rattle.solution_files.proofs.Sequences.{parts_first, parts_second, parts_both}
 use Rattle.decompose_tool.proofs.messages.put_rest.Goals as goal
 
 pub returns-in_err-put_entries-clause-refused : goal.returns-in_err-put_entries-clause-refused

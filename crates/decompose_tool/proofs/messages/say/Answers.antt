@@ -1,5 +1,5 @@
 use Rattle.decompose_tool.specs.Messages.{message_of}
-use Rattle.decompose_tool.proofs.Texts.{said}
+use Rattle.solution_files.proofs.Sequences.{said}
 use Rattle.decompose_tool.proofs.messages.say.Goals as goal
 
 pub returns-in-Err : goal.returns-in-Err

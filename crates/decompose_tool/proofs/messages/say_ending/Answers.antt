@@ -2,7 +2,7 @@ use Rattle.std.proofs.Common.{subst}
 use Rattle.std.specs.Prelude.{List, ℤ}
 use Rattle.outside.specs.Pieces.{MayPut}
 use Rattle.decompose_tool.specs.Messages.{left_message}
-use Rattle.decompose_tool.proofs.Texts.{said}
+use Rattle.solution_files.proofs.Sequences.{said}
 use Rattle.decompose_tool.proofs.messages.say_ending.Goals as goal
 
 pub returns-in-Left : goal.returns-in-Left

@@ -3,7 +3,7 @@ use Rattle.std.proofs.Common.{◌∷◌, [], codes}
 use Rattle.std.proofs.lemmas.Result.{err_from_is_err_and, on_ok_weaker, on_err_weaker}
 use Rattle.tool_top.specs.declared.ends.Part.TheVariants.{Ckp1}
 use Rattle.tool_top.specs.Messages.{about, cause_of}
-use Rattle.tool_top.proofs.Sequences.{parts_first, parts_second, parts_both}
+use Rattle.solution_files.proofs.Sequences.{parts_first, parts_second, parts_both}
 use Rattle.tool_top.proofs.causes.put_second_cause.Goals as goal
 
 pub returns-in_err-put_text-clause-refused : goal.returns-in_err-put_text-clause-refused

@@ -1,7 +1,7 @@
 use Rattle.std.proofs.Common.{◌∷◌, [], codes}
 use Rattle.std.proofs.lemmas.Result.{err_from_is_err_and, on_ok_weaker, on_err_weaker}
 use Rattle.tool_top.specs.Messages.{part_name}
-use Rattle.tool_top.proofs.Sequences.{parts_first, parts_second, parts_both}
+use Rattle.solution_files.proofs.Sequences.{parts_first, parts_second, parts_both}
 use Rattle.tool_top.proofs.messages.put_about.Goals as goal
 
 pub returns-in_err-put_file-clause-refused : goal.returns-in_err-put_file-clause-refused

@@ -3,7 +3,7 @@ use Rattle.std.proofs.lemmas.Result.{err_from_is_err_and, on_ok_weaker, on_err_w
 use Rattle.std.specs.Io.KnownBytes.{append_known}
 use Rattle.outside.specs.Pieces.{MayPut, text_of_parts}
 use Rattle.tool_top.specs.Messages.{part_name, shape_part, shape_fault_words}
-use Rattle.tool_top.proofs.Sequences.{parts_first, parts_second, parts_both}
+use Rattle.solution_files.proofs.Sequences.{parts_first, parts_second, parts_both}
 use Rattle.tool_top.proofs.messages.put_shape_line.Goals as goal
 
 pub returns-in_err-put_file-clause-refused : goal.returns-in_err-put_file-clause-refused

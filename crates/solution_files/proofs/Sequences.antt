@@ -1,13 +1,13 @@
 -- Texts that are put one after another: a refusal leaves a prefix of the whole.
-use Rattle.std.proofs.Common.{◌≡◌, ◌<◌, ◌+◌, ℕ, ℤ, min, List, [], ◌∷◌, ◌++◌, length, take, drop, get_or, Option, ap, sym, subst, ◌∙◌}
-use Rattle.std.specs.Fmt.{signed_decimal}
-use Rattle.std.proofs.lemmas.List.{drop_more, map-append, take_more, take-append-drop}
+use Rattle.std.proofs.Common.{Result, Ok, Err, le_refl, ◌≡◌, ◌<◌, ◌+◌, ℕ, min, List, [], ◌∷◌, ◌++◌, length, map, take, drop, get_or, Option, ap, sym, subst, ◌∙◌}
+use Rattle.std.specs.Prelude.{OnOk, OnErr, Unit}
+use Rattle.std.proofs.lemmas.List.{drop_more, map-append, take_all, take-append-drop}
 use Rattle.std.proofs.lemmas.List.Concat.{flat_map-append}
 use Rattle.std.proofs.Math.Seq.{take-append-add}
 use Rattle.std.specs.Io.KnownBytes.{append_known}
 use Rattle.outside.specs.Pieces.{MayPut, text_of_parts}
 use Rattle.outside.proofs.Putting.{part, known_more}
-use Rattle.tool_top.specs.Messages.{entries}
+use Rattle.outside.specs.declared.ends.PutEnd.{PutEnd}
 
 -- a prefix of the first text is one of both
 pub may_first : (first second : List ℕ) (old new : Option (List ℕ)) → MayPut first old new → MayPut (first ++ second) old new
@@ -38,24 +38,21 @@ parts_second xs ys old mid new done may = subst (λ t. MayPut t old new) (sym (p
 pub parts_both : (xs ys : List (List ℕ)) (old mid new : Option (List ℕ)) → mid ≡ append_known old (text_of_parts xs) → new ≡ append_known mid (text_of_parts ys) → new ≡ append_known old (text_of_parts (xs ++ ys))
 parts_both xs ys old mid new one two = put_both (text_of_parts xs) (text_of_parts ys) old mid new one two ∙ ap (append_known old) (sym (parts_split xs ys))
 
--- the entries, split at one of them
-entries_split : (cells : List ℤ) (i : ℕ) (d : ℤ) → i < length cells → entries cells ≡ entries (take i cells) ++ ((32 ∷ signed_decimal (get_or cells i d)) ∷ entries (drop (i + 1) cells))
-entries_split cells i d h =
-    ap entries (sym (take-append-drop i cells))
-    ∙ map-append (λ z. 32 ∷ signed_decimal z) (take i cells) (drop i cells)
-    ∙ ap (λ r. entries (take i cells) ++ entries r) (drop_more cells i d h)
+-- each value as a part, split at one of them
+each_split : {A : Type 0} (f : A → List ℕ) (xs : List A) (i : ℕ) (d : A) → i < length xs → map f xs ≡ map f (take i xs) ++ (f (get_or xs i d) ∷ map f (drop (i + 1) xs))
+each_split f xs i d h =
+    ap (map f) (sym (take-append-drop i xs))
+    ∙ map-append f (take i xs) (drop i xs)
+    ∙ ap (λ r. map f (take i xs) ++ map f r) (drop_more xs i d h)
 
--- a front of an entry behind whole entries is a front of them all
-pub entries_front : (cells : List ℤ) (i : ℕ) (d : ℤ) (old mid new : Option (List ℕ)) → i < length cells →
-    mid ≡ append_known old (text_of_parts (entries (take i cells))) → MayPut (text_of_parts ((32 ∷ signed_decimal (get_or cells i d)) ∷ [])) mid new → MayPut (text_of_parts (entries cells)) old new
-entries_front cells i d old mid new h front may =
-    subst (λ t. MayPut (text_of_parts t) old new) (sym (entries_split cells i d h))
-    (parts_second (entries (take i cells)) _ old mid new front (parts_first ((32 ∷ signed_decimal (get_or cells i d)) ∷ []) (entries (drop (i + 1) cells)) mid new may))
+-- a front of a value's part behind whole parts is a front of them all
+pub each_front : {A : Type 0} (f : A → List ℕ) (xs : List A) (i : ℕ) (d : A) (old mid new : Option (List ℕ)) → i < length xs →
+    mid ≡ append_known old (text_of_parts (map f (take i xs))) → MayPut (text_of_parts (f (get_or xs i d) ∷ [])) mid new → MayPut (text_of_parts (map f xs)) old new
+each_front f xs i d old mid new h front may =
+    subst (λ t. MayPut (text_of_parts t) old new) (sym (each_split f xs i d h))
+    (parts_second (map f (take i xs)) _ old mid new front (parts_first (f (get_or xs i d) ∷ []) (map f (drop (i + 1) xs)) mid new may))
 
--- one entry more
-pub entries_more : (cells : List ℤ) (i : ℕ) (d : ℤ) (old mid new : Option (List ℕ)) → i < length cells →
-    mid ≡ append_known old (text_of_parts (entries (take i cells))) → new ≡ append_known mid (text_of_parts ((32 ∷ signed_decimal (get_or cells i d)) ∷ [])) →
-    new ≡ append_known old (text_of_parts (entries (take (i + 1) cells)))
-entries_more cells i d old mid new h one two =
-    parts_both (entries (take i cells)) ((32 ∷ signed_decimal (get_or cells i d)) ∷ []) old mid new one two
-    ∙ ap (λ l. append_known old (text_of_parts l)) (sym (ap entries (take_more cells i d h) ∙ map-append (λ z. 32 ∷ signed_decimal z) (take i cells) (get_or cells i d ∷ [])))
+-- a text that was put whole or in part
+pub said : (text : List ℕ) (old new : Option (List ℕ)) (r : Result (Unit {0}) PutEnd) → OnOk r (new ≡ append_known old text) → OnErr r (MayPut text old new) → MayPut text old new
+said text old new (Ok u) done cut = (length text, done ∙ ap (append_known old) (sym (take_all (length text) text (le_refl (length text)))))
+said text old new (Err end) done cut = cut
