@@ -1,6 +1,8 @@
-//! One norm of a stage, worked out by several workers on one board.
+//! How a norm of a stage is worked out: by several workers on one board, or in another way.
 
-ghost use Rattle.std.specs.Prelude.{◌≤◌, ◌^◌, IfOk};
+ghost use Rattle.std.specs.Prelude.{◌≤◌, ◌^◌, IfOk, ⊤};
+ghost use Rattle.lift_core.specs.Stages.{IsNextNorm};
+ghost use Rattle.stage_store.specs.Stage.{StageValue};
 ghost use Rattle.stage_store.specs.Published.{IsClosedNorm};
 
 use norm_board::{Board, blocks_of};
@@ -9,7 +11,64 @@ use std::alloc::{AllocError, Global};
 use std::thread::Threads;
 use worker_gate::{Gate, run_norm};
 
-/// A third pass and each further one pays for its thread from so many pairs more that are looked at: to start one costs
+/// A way to work out the norms of a run, one after another.
+pub trait Norms {
+    /// What is asked of a stage, besides that the norm is its next one.
+    ghost asks: { StageValue → Type 0 };
+
+    /// The irreducible sums of the stage's next norm, each once, in order.
+    ///
+    /// # Errors
+    /// Memory ran out.
+    fn sums(&mut self, stage: &Stage, norm: u64) -> Result<Closed, AllocError>
+        requires asked { asks stage.now }
+        requires next { IsNextNorm stage.now.listed stage.now.waiting stage.now.norm norm }
+        requires small { norm ≤ 9223372036854775807 }
+        ensures { IfOk result (IsClosedNorm stage.now norm) };
+}
+
+/// By several workers on one board.
+#[derive(Drop)]
+pub(crate) struct OnBoard<'a, R, G> {
+    rt: &'a R,
+    alloc: Global,
+    workers: u32,
+    gate: &'a G,
+    ghost some: { 1 ≤ workers },
+    ghost most: { workers ≤ 32 },
+}
+
+impl<'a, R, G> OnBoard<'a, R, G> {
+    /// With so many workers, who tell the gate the points that they pass.
+    pub(crate) fn new(rt: &'a R, alloc: Global, workers: u32, gate: &'a G) -> OnBoard<'a, R, G>
+        requires some { 1 ≤ workers }
+        requires most { workers ≤ 32 }
+    {
+        OnBoard {
+            rt,
+            alloc,
+            workers,
+            gate,
+        }
+    }
+}
+
+impl<'a, R: Threads + Sync, G: Gate + Sync> Norms for OnBoard<'a, R, G> {
+    ghost asks = { λ _. ⊤ };
+
+    fn sums(&mut self, stage: &Stage, norm: u64) -> Result<Closed, AllocError> {
+        norm_sums(
+            self.rt,
+            self.alloc,
+            stage,
+            norm,
+            self.workers,
+            self.gate,
+        )
+    }
+}
+
+/// A second pass and each further one pays for its thread from so many pairs more that are looked at: to start one costs
 /// about as much.
 const PAIRS_A_PASS: u64 = 256;
 
@@ -22,14 +81,14 @@ fn passes_for(pairs: u64, left: u64, workers: u32) -> u32
     ensures most { result ≤ workers }
 {
     let blocks = blocks_of(pairs);
-    match u32::try_from(blocks.min(2 + left / PAIRS_A_PASS)) {
+    match u32::try_from(blocks.min(1 + left / PAIRS_A_PASS)) {
         Ok(passes) => workers.min(passes.max(1)),
         Err(_) => workers,
     }
 }
 
-/// The irreducible sums of a norm, each once, in order.
-pub(crate) fn norm_sums<R: Threads + Sync, G: Gate + Sync>(
+// The irreducible sums of a norm, each once, in order.
+fn norm_sums<R: Threads + Sync, G: Gate + Sync>(
     rt: &R,
     alloc: Global,
     stage: &Stage,
