@@ -1,6 +1,6 @@
 //! How a norm of a stage is worked out: by several workers on one board, or in another way.
 
-ghost use Rattle.std.specs.Prelude.{◌≤◌, ◌^◌, IfOk, ⊤};
+ghost use Rattle.std.specs.Prelude.{◌≤◌, ◌^◌, IfOk, IfSome, ⊤};
 ghost use Rattle.lift_core.specs.Stages.{IsNextNorm};
 ghost use Rattle.stage_store.specs.Stage.{StageValue};
 ghost use Rattle.stage_store.specs.Published.{IsClosedNorm};
@@ -11,60 +11,31 @@ use std::alloc::{AllocError, Global};
 use std::thread::Threads;
 use worker_gate::{Gate, run_norm};
 
-/// A way to work out the norms of a run, one after another.
+/// A way to work out the norms of a run, one after another, other than by workers on one board.
 pub trait Norms {
     /// What is asked of a stage, besides that the norm is its next one.
     ghost asks: { StageValue → Type 0 };
 
-    /// The irreducible sums of the stage's next norm, each once, in order.
+    /// The irreducible sums of the stage's next norm, each once, in order; nothing where the norm is left to the board.
     ///
     /// # Errors
     /// Memory ran out.
-    fn sums(&mut self, stage: &Stage, norm: u64) -> Result<Closed, AllocError>
+    fn sums(&mut self, stage: &Stage, norm: u64) -> Result<Option<Closed>, AllocError>
         requires asked { asks stage.now }
         requires next { IsNextNorm stage.now.listed stage.now.waiting stage.now.norm norm }
         requires small { norm ≤ 9223372036854775807 }
-        ensures { IfOk result (IsClosedNorm stage.now norm) };
+        ensures { IfOk result (λ sums. IfSome sums (IsClosedNorm stage.now norm)) };
 }
 
-/// By several workers on one board.
+/// Each norm is left to the board.
 #[derive(Drop)]
-pub(crate) struct OnBoard<'a, R, G> {
-    rt: &'a R,
-    alloc: Global,
-    workers: u32,
-    gate: &'a G,
-    ghost some: { 1 ≤ workers },
-    ghost most: { workers ≤ 32 },
-}
+pub(crate) struct OnBoard;
 
-impl<'a, R, G> OnBoard<'a, R, G> {
-    /// With so many workers, who tell the gate the points that they pass.
-    pub(crate) fn new(rt: &'a R, alloc: Global, workers: u32, gate: &'a G) -> OnBoard<'a, R, G>
-        requires some { 1 ≤ workers }
-        requires most { workers ≤ 32 }
-    {
-        OnBoard {
-            rt,
-            alloc,
-            workers,
-            gate,
-        }
-    }
-}
-
-impl<'a, R: Threads + Sync, G: Gate + Sync> Norms for OnBoard<'a, R, G> {
+impl Norms for OnBoard {
     ghost asks = { λ _. ⊤ };
 
-    fn sums(&mut self, stage: &Stage, norm: u64) -> Result<Closed, AllocError> {
-        norm_sums(
-            self.rt,
-            self.alloc,
-            stage,
-            norm,
-            self.workers,
-            self.gate,
-        )
+    fn sums(&mut self, _stage: &Stage, _norm: u64) -> Result<Option<Closed>, AllocError> {
+        Ok(None)
     }
 }
 
@@ -108,4 +79,27 @@ fn norm_sums<R: Threads + Sync, G: Gate + Sync>(
         return Err(AllocError);
     };
     Ok(closed)
+}
+
+/// The same, in another way where that takes the norm.
+pub(crate) fn sums_by<R: Threads + Sync, G: Gate + Sync, N: Norms>(
+    rt: &R,
+    alloc: Global,
+    stage: &Stage,
+    norm: u64,
+    workers: u32,
+    gate: &G,
+    norms: &mut N,
+) -> Result<Closed, AllocError>
+    requires asked { N.asks stage.now }
+    requires next { IsNextNorm stage.now.listed stage.now.waiting stage.now.norm norm }
+    requires small { norm ≤ 9223372036854775807 }
+    requires some { 1 ≤ workers }
+    requires most { workers ≤ 32 }
+    ensures { IfOk result (IsClosedNorm stage.now norm) }
+{
+    match norms.sums(stage, norm)? {
+        Some(closed) => Ok(closed),
+        None => norm_sums(rt, alloc, stage, norm, workers, gate),
+    }
 }

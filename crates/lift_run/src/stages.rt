@@ -12,7 +12,7 @@ ghost use Rattle.lift_run.specs.Inside.Steps.{AllowsNext, ListsNorm, ClosesNorm,
 
 use crate::ends::{Limits, Place, RunEnd};
 use crate::keeping::Keep;
-use crate::norms::{Norms, OnBoard};
+use crate::norms::{Norms, OnBoard, sums_by};
 use lift_core::System;
 use stage_store::{Finish, Lifted, Next, PublishEnd, Stage};
 use std::alloc::Global;
@@ -81,22 +81,26 @@ pub fn run<R: Threads + Sync, G: Gate + Sync, K: Keep>(
     ensures told { is_some (K.state keep.new) ≡ is_some (K.state keep.old) }
     ensures cause { HasKeepCause (K.faults keep.old) (K.faults keep.new) result }
 {
-    let mut norms = OnBoard::new(rt, alloc, limits.workers, gate);
-    run_with(&mut norms, from, limits, keep)
+    run_with(rt, alloc, from, limits, gate, &mut OnBoard, keep)
 }
 
-/// Runs the lifting from a stage on, as `run` does, by any way to work out a norm. What that way asks of a stage has to hold of
-/// each stage that is defined where the first one is.
+/// Runs the lifting from a stage on, as `run` does, where a norm may be worked out in another way. What that way asks of a stage
+/// has to hold of each stage that is defined where the first one is.
 ///
 /// # Errors
 /// As `run`.
-pub fn run_with<N: Norms, K: Keep>(
-    norms: &mut N,
+pub fn run_with<R: Threads + Sync, G: Gate + Sync, N: Norms, K: Keep>(
+    rt: &R,
+    alloc: Global,
     from: Lifted,
     limits: Limits,
+    gate: &G,
+    norms: &mut N,
     keep: &mut K,
 ) -> Result<Finish, RunEnd>
     requires asks { (s : StageValue) → (IsLiftedDefined from → IsDefined s) → N.asks s }
+    requires workers { 1 ≤ limits.workers }
+    requires most { limits.workers ≤ Limits.MAX_WORKERS }
     requires pairs { limits.pairs ≤ Limits.MAX_PAIRS }
     requires some_rows { 1 ≤ limits.rows }
     requires rows { limits.rows ≤ Limits.MAX_ROWS }
@@ -111,20 +115,25 @@ pub fn run_with<N: Norms, K: Keep>(
     match from {
         Lifted::Next(stage) => {
             stage.keeps();
-            run_stages(norms, stage, limits, keep)
+            run_stages(rt, alloc, stage, limits, gate, norms, keep)
         }
         Lifted::Last(finish) => Ok(finish),
     }
 }
 
 // Runs over this stage and those after it.
-fn run_stages<N: Norms, K: Keep>(
-    norms: &mut N,
+fn run_stages<R: Threads + Sync, G: Gate + Sync, N: Norms, K: Keep>(
+    rt: &R,
+    alloc: Global,
     first: Stage,
     limits: Limits,
+    gate: &G,
+    norms: &mut N,
     keep: &mut K,
 ) -> Result<Finish, RunEnd>
     requires asks { (s : StageValue) → (IsDefined first → IsDefined s) → N.asks s }
+    requires workers { 1 ≤ limits.workers }
+    requires most { limits.workers ≤ Limits.MAX_WORKERS }
     requires rows { limits.rows ≤ Limits.MAX_ROWS }
     ensures runs { RunsFrom K.after K.torn (bounds limits) first (K.state keep.old) (K.state keep.new) result }
     ensures told { is_some (K.state keep.new) ≡ is_some (K.state keep.old) }
@@ -132,7 +141,7 @@ fn run_stages<N: Norms, K: Keep>(
 {
     let mut stage = first;
     loop {
-        run_stage(norms, &mut stage, limits, keep)?;
+        run_stage(rt, alloc, &mut stage, limits, gate, norms, keep)?;
         match stage.lift()? {
             Lifted::Next(next) => stage = next,
             Lifted::Last(finish) => return Ok(finish),
@@ -141,20 +150,25 @@ fn run_stages<N: Norms, K: Keep>(
 }
 
 // Closes the norms of the stage until there is no next one.
-fn run_stage<N: Norms, K: Keep>(
-    norms: &mut N,
+fn run_stage<R: Threads + Sync, G: Gate + Sync, N: Norms, K: Keep>(
+    rt: &R,
+    alloc: Global,
     stage: &mut Stage,
     limits: Limits,
+    gate: &G,
+    norms: &mut N,
     keep: &mut K,
 ) -> Result<(), RunEnd>
     requires asks { (s : StageValue) → (IsDefined stage.old → IsDefined s) → N.asks s }
+    requires workers { 1 ≤ limits.workers }
+    requires most { limits.workers ≤ Limits.MAX_WORKERS }
     requires rows { limits.rows ≤ Limits.MAX_ROWS }
     ensures closes { ClosesAll K.after K.torn (bounds limits) stage.old stage.new (K.state keep.old) (K.state keep.new) result }
     ensures told { is_some (K.state keep.new) ≡ is_some (K.state keep.old) }
     ensures cause { HasKeepCause (K.faults keep.old) (K.faults keep.new) result }
 {
     while let Some(norm) = next_within(stage, limits)? {
-        close_norm(norms, stage, norm, limits, keep)?;
+        close_norm(rt, alloc, stage, norm, limits, gate, norms, keep)?;
     }
     Ok(())
 }
@@ -187,39 +201,49 @@ fn next_within(stage: &Stage, limits: Limits) -> Result<Option<u64>, RunEnd>
 }
 
 // Lists the rows of the next norm, and tells the Keep.
-fn close_norm<N: Norms, K: Keep>(
-    norms: &mut N,
+fn close_norm<R: Threads + Sync, G: Gate + Sync, N: Norms, K: Keep>(
+    rt: &R,
+    alloc: Global,
     stage: &mut Stage,
     norm: u64,
     limits: Limits,
+    gate: &G,
+    norms: &mut N,
     keep: &mut K,
 ) -> Result<(), RunEnd>
     requires asked { N.asks stage.old }
     requires allowed { IsAllowed (bounds limits) stage.old norm }
+    requires workers { 1 ≤ limits.workers }
+    requires most { limits.workers ≤ Limits.MAX_WORKERS }
     requires rows { limits.rows ≤ Limits.MAX_ROWS }
     ensures closes { ClosesNorm K.after K.torn (bounds limits) norm stage.old stage.new (K.state keep.old) (K.state keep.new) result }
     ensures told { is_some (K.state keep.new) ≡ is_some (K.state keep.old) }
     ensures cause { HasKeepCause (K.faults keep.old) (K.faults keep.new) result }
 {
-    list_norm(norms, stage, norm, limits)?;
+    list_norm(rt, alloc, stage, norm, limits, gate, norms)?;
     keep.norm_closed(stage)?;
     Ok(())
 }
 
 // Lists the rows of the next norm.
-fn list_norm<N: Norms>(
-    norms: &mut N,
+fn list_norm<R: Threads + Sync, G: Gate + Sync, N: Norms>(
+    rt: &R,
+    alloc: Global,
     stage: &mut Stage,
     norm: u64,
     limits: Limits,
+    gate: &G,
+    norms: &mut N,
 ) -> Result<(), RunEnd>
     requires asked { N.asks stage.old }
     requires allowed { IsAllowed (bounds limits) stage.old norm }
+    requires workers { 1 ≤ limits.workers }
+    requires most { limits.workers ≤ Limits.MAX_WORKERS }
     requires rows { limits.rows ≤ Limits.MAX_ROWS }
     ensures lists { ListsNorm (bounds limits) norm stage.old stage.new result }
     ensures sure { result ≡ Err RunEnd.Failed → ⊥ }
 {
-    let closed = norms.sums(stage, norm)?;
+    let closed = sums_by(rt, alloc, stage, norm, limits.workers, gate, norms)?;
     match stage.publish(&closed, limits.rows) {
         Ok(()) => Ok(()),
         Err(PublishEnd::Rows { count }) => Err(RunEnd::Rows {

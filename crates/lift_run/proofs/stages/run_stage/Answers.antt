@@ -1,7 +1,6 @@
-use Rattle.std.proofs.Common.{rules, arith, refl, ◌∙◌}
+use Rattle.std.proofs.Common.{arith, refl, ◌∙◌}
 use Rattle.lift_run.specs.Runs.{bounds}
-use Rattle.lift_run.proofs.Walking.{stays, goes_further, closes_stop, told_here}
-use Rattle.lift_run.specs.Runs.{end_of_error}
+use Rattle.lift_run.proofs.Walking.{stays, goes_further, closes_stop}
 use Rattle.lift_run.proofs.stages.run_stage.Goals as goal
 
 pub loop-norm-init : goal.loop-norm-init
@@ -23,4 +22,4 @@ returns-in_err-close_norm-clause-closes g c =
     c.from_residual-in_err-close_norm.ensures.1 c.loop-norm.invariant.goes c.in_err-close_norm.ensures.closes
 
 pub close_norm-requires-clause-asked : goal.close_norm-requires-clause-asked
-close_norm-requires-clause-asked g c = c.requires.asks c.loop-norm.stage c.loop-norm.invariant.goes.defined
+close_norm-requires-clause-asked g c κs within = c.requires.asks c.loop-norm.stage c.loop-norm.invariant.goes.defined

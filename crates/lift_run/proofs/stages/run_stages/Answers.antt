@@ -1,4 +1,4 @@
-use Rattle.std.proofs.Common.{rules, arith, refl, ◌∙◌}
+use Rattle.std.proofs.Common.{arith, refl, ◌∙◌}
 use Rattle.lift_run.specs.Runs.{bounds}
 use Rattle.lift_run.proofs.Walking.{stays, goes_next, goes_last, goes_nowhere, runs_stop, fewer_left, leads_system}
 use Rattle.lift_run.proofs.stages.run_stages.Goals as goal
@@ -35,4 +35,4 @@ returns-in-Last-clause-runs g c =
     c.in-Last.is c.loop-stage.invariant.goes c.in_ok-run_stage.ensures.closes.0 c.in_ok-run_stage.ensures.closes.1 c.in_ok-next.ensures.lifted c.in_ok-next.ensures.defined
 
 pub run_stage-requires-clause-asks : goal.run_stage-requires-clause-asks
-run_stage-requires-clause-asks g c = λ s d. c.requires.asks s (λ f. d (c.loop-stage.invariant.goes.defined f))
+run_stage-requires-clause-asks g c κs within = λ s d. c.requires.asks s (λ f. d (c.loop-stage.invariant.goes.defined f))

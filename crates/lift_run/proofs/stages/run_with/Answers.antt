@@ -17,4 +17,4 @@ returns-in-Next-clause-kept g c =
     (told_of g.K.Keep.after g.K.Keep.torn (bounds c.args.limits) c.in-Next.stage c.run_stages.result (g.K.Keep.state c.args.keep.now) (g.K.Keep.state c.run_stages.new.keep) c.run_stages.ensures.runs)
 
 pub run_stages-requires-clause-asks : goal.run_stages-requires-clause-asks
-run_stages-requires-clause-asks g c = λ s d. c.requires.asks s (rw c.in-Next.is d)
+run_stages-requires-clause-asks g c κs within = λ s d. c.requires.asks s (rw c.in-Next.is d)
