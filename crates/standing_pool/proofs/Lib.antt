@@ -1,4 +1,4 @@
 pub mod Parts
 pub mod Rows
-pub mod Sums
+pub mod PartSums
 pub mod Crossing

@@ -104,6 +104,7 @@ pub(crate) struct Hall {
     put: Condvar,
     told: Condvar,
     ghost workers: { 1 ≤ limits.workers },
+    ghost few: { limits.workers ≤ 32 },
     ghost pairs: { limits.pairs ≤ 4611686018427387904 },
     ghost some: { 1 ≤ limits.rows },
     ghost most: { limits.rows ≤ 2097152 },
@@ -113,6 +114,7 @@ impl Hall {
     /// For so many workers, who all begin at once.
     pub(crate) fn new(alloc: Global, system: System, limits: Limits) -> Result<Hall, AllocError>
         requires workers { 1 ≤ limits.workers }
+        requires few { limits.workers ≤ 32 }
         requires pairs { limits.pairs ≤ 4611686018427387904 }
         requires some { 1 ≤ limits.rows }
         requires most { limits.rows ≤ 2097152 }

@@ -18,6 +18,8 @@ use row_pool::Pool;
 use stage_store::{Closed, Finish, Hints, Lifted, Stage, in_order};
 use std::alloc::{AllocError, Global};
 use std::sync::{Arc, Wait};
+use std::thread::Threads;
+use worker_gate::Gate;
 
 // Appends rows.
 fn append(rows: &mut Pool, more: &Pool) -> Result<(), AllocError>
@@ -145,7 +147,7 @@ impl<'a, R: Wait> Norms for Leader<'a, R> {
 
     ghost asks = { IsDefined };
 
-    fn sums(&mut self, stage: &Stage, norm: u64) -> Result<Closed, AllocError> {
+    fn sums(&mut self, stage: &Stage, norm: u64) -> Result<Option<Closed>, AllocError> {
         let hall = self.hall;
         hall.collect(self.rt, &mut self.parts);
         let closed = put_together(
@@ -157,12 +159,17 @@ impl<'a, R: Wait> Norms for Leader<'a, R> {
             &mut self.hints,
         )?;
         self.tell(stage, &closed)?;
-        Ok(closed)
+        Ok(Some(closed))
     }
 }
 
 // Runs the lifting with the team.
-fn run_team<R: Wait>(rt: &R, hall: &Hall, first: Lifted) -> Result<Finish, RunEnd>
+fn run_team<R: Threads + Wait + Sync, G: Gate + Sync>(
+    rt: &R,
+    hall: &Hall,
+    gate: &G,
+    first: Lifted,
+) -> Result<Finish, RunEnd>
     requires { IsLiftedDefined first }
     ensures end { AnswersEnd (bounds hall.now.limits) first result }
     ensures system { IfOk result (KeepsSystem first) }
@@ -176,11 +183,24 @@ fn run_team<R: Wait>(rt: &R, hall: &Hall, first: Lifted) -> Result<Finish, RunEn
         parts: no_parts(hall.alloc, hall.limits.workers)?,
         hints: Hints::new(hall.alloc)?,
     };
-    run_with(&mut leader, first, hall.limits, &mut NoKeep)
+    run_with(
+        rt,
+        hall.alloc,
+        first,
+        hall.limits,
+        gate,
+        &mut leader,
+        &mut NoKeep,
+    )
 }
 
 /// Runs the lifting with the team, and tells the workers when it is over.
-pub(crate) fn lead<R: Wait>(rt: &R, hall: &Hall, first: Lifted) -> Result<Finish, RunEnd>
+pub(crate) fn lead<R: Threads + Wait + Sync, G: Gate + Sync>(
+    rt: &R,
+    hall: &Hall,
+    gate: &G,
+    first: Lifted,
+) -> Result<Finish, RunEnd>
     requires { IsLiftedDefined first }
     ensures end { AnswersEnd (bounds hall.now.limits) first result }
     ensures system { IfOk result (KeepsSystem first) }
@@ -188,7 +208,7 @@ pub(crate) fn lead<R: Wait>(rt: &R, hall: &Hall, first: Lifted) -> Result<Finish
     ensures walk { IsComeTo (bounds hall.now.limits) first result }
     ensures sure { result ≡ Err RunEnd.Failed → ⊥ }
 {
-    let end = run_team(rt, hall, first);
+    let end = run_team(rt, hall, gate, first);
     hall.close(rt);
     end
 }

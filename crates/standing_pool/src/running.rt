@@ -51,7 +51,7 @@ fn with_team<R: Threads + Wait + Sync, G: Gate + Sync>(
                     hall.leave(rt, i);
                 }
             }
-            lead(rt, hall, first)
+            lead(rt, hall, gate, first)
         },
     )
 }

@@ -1,5 +1,5 @@
 use Rattle.std.proofs.Common.{refl, ◌∙◌}
-use Rattle.standing_pool.proofs.Sums.{all_parts}
+use Rattle.standing_pool.proofs.PartSums.{all_parts}
 use Rattle.standing_pool.proofs.leader.put_together.Goals as goal
 
 pub returns-clause-closed : goal.returns-clause-closed

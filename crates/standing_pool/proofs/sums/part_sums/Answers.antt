@@ -1,5 +1,5 @@
 use Rattle.std.proofs.Common.{refl}
-use Rattle.standing_pool.proofs.Sums.{part_list}
+use Rattle.standing_pool.proofs.PartSums.{part_list}
 use Rattle.standing_pool.proofs.sums.part_sums.Goals as goal
 
 pub returns-clause-rows : goal.returns-clause-rows
