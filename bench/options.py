@@ -1,8 +1,8 @@
 #!/usr/bin/env python3
 """Runs the programs with two lists of options on the same systems, in turn, and tells what the second costs.
 
-    python3 bench/options.py --bin DIR --first "--workers=1" --second "--workers=4" [--only REGEX] [--repeat N] [--timeout S]
-    python3 bench/options.py --bin DIR --second "--backup=100"
+    python3 bench/options.py --bin DIR --first="--workers=1" --second="--workers=4" [--only REGEX] [--repeat N] [--timeout S]
+    python3 bench/options.py --bin DIR --second="--backup=100"
 
 The systems are those of bench/systems and bench/long. For each the least wall time and the least processor time (user and system) of N
 runs with either list, and the ratio of the second to the first; files and summary have to be the same bytes, restart files apart. A system
