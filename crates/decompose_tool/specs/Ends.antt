@@ -145,7 +145,7 @@ EndsWith p t (Err (File f fault)) = ⊥
 EndsWith p t (Err (Shape f rows cols)) = ⊥
 
 -- the end is the one that the words and the files decide, and this is what stands then; a device's
--- fault and a lack of memory come by themselves
+-- fault and running out of memory come by themselves
 abbrev pub Ends : Result Plan Stop → Traces → Result Ending Stop → Type 0
 Ends plan t (Ok ending) = (p : Plan) × (plan ≡ Ok p) × EndsWith p t (Ok ending)
 Ends plan t (Err (Row f i fault)) = (p : Plan) × (plan ≡ Ok p) × EndsWith p t (Err (Row f i fault))

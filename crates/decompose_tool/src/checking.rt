@@ -1,4 +1,4 @@
-// Which rows are taken: solutions whose full vectors are in range.
+//! Which rows are taken: solutions whose full vectors are in range.
 ghost use Rattle.std.specs.Prelude.{◌≡◌, ◌↔◌, ◌≤◌, ◌<◌, ◌≤ℤ◌, [], pos, nat_abs, length, take, IsTrue, IfOk, IfSome, MatchOption};
 ghost use Rattle.std.specs.List.{AllZip};
 ghost use Rattle.int_vector.specs.Range.{InRange};

@@ -1,4 +1,4 @@
-// How a run ends.
+//! How a run ends.
 ghost use Rattle.std.specs.Prelude.{◌≡◌};
 ghost use Rattle.decompose_tool.specs.Ends.{code_of, end_of};
 ghost use Rattle.decompose_tool.specs.Endings.{ending};

@@ -1,4 +1,4 @@
-// Reading the set and the point.
+//! Reading the set and the point.
 ghost use Rattle.std.specs.Prelude.{◌≡◌, ◌≤◌, ◌++◌, IfOk, IfSome, Err};
 ghost use Rattle.std.specs.FinMap.{get};
 ghost use Rattle.system_files.specs.Files.{grid_in};

@@ -1,4 +1,4 @@
-// The words of the command.
+//! The words of the command.
 ghost use Rattle.std.specs.Prelude.{◌≡◌, unwrap_or};
 ghost use Rattle.std.specs.Option.{option_map};
 ghost use Rattle.decompose_tool.specs.Requests.{tool_in, asked_in, project_of};

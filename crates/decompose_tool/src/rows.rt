@@ -1,4 +1,4 @@
-// The rows of the user's system, and how a vector stands to them.
+//! The rows of the user's system, and how a vector stands to them.
 ghost use Rattle.std.specs.Prelude.{◌≡◌, ◌↔◌, ◌≤◌, ◌<◌, ◌*◌, ◌*ℤ◌, List, ℤ, pos, nat_abs, length, None, IsTrue, slice_index_or};
 ghost use Rattle.int_vector.specs.Range.{InRange};
 ghost use Rattle.int_vector.specs.Vectors.{dot, norm, largest};

@@ -1,4 +1,4 @@
-// The walk: each candidate is taken as often as it fits below what is left.
+//! The walk: each candidate is taken as often as it fits below what is left.
 ghost use Rattle.std.specs.Prelude.{◌≡◌, ◌↔◌, ◌≤◌, ◌<◌, ◌+◌, ◌*◌, ◌*ℤ◌, ◌-ℤ◌, ◌<ℤ◌, ◌⊎◌, ◌++◌, ◌∷◌, ℕ, [], pos, neg_ℤ, length, take, false, IsTrue, IfOk, IfSome, slice_index_or};
 ghost use Rattle.std.specs.List.{AllByRecursion};
 ghost use Rattle.int_vector.specs.Range.{InRange};

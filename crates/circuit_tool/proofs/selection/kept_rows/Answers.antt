@@ -1,3 +1,4 @@
+-- A row is taken where it is kept, and passed over where it is not.
 use Rattle.std.proofs.Common.{◌≡◌, ◌<◌, ◌+◌, ◌++◌, ◌∷◌, [], ◌∙◌, ap, subst, sym, length, drop, arith, true, false, length-append}
 use Rattle.std.specs.List.{filter}
 use Rattle.std.proofs.lemmas.List.Elements.{recursion_from_All}

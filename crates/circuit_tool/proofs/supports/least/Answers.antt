@@ -1,3 +1,4 @@
+-- A support is taken where no kept one lies in it, and else passed over.
 use Rattle.std.proofs.Common.{◌≡◌, ◌+◌, [], drop, ap, ◌∙◌, true, false, get_or}
 use Rattle.std.specs.List.{list_any}
 use Rattle.circuit_tool.specs.Inside.Supports.{least_from, is_within}

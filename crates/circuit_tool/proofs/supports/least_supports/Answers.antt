@@ -1,3 +1,4 @@
+-- The words that are kept, of those in order, are the least supports.
 use Rattle.std.proofs.Common.{◌≡◌, [], ◌∙◌, ap}
 use Rattle.std.proofs.lemmas.Result.{IfOk-weaker}
 use Rattle.system_files.specs.Kernel.{rows_in}

@@ -1,3 +1,4 @@
+-- The outcome of all steps, and what is said of it.
 use Rattle.std.proofs.Common.{subst}
 use Rattle.std.specs.Prelude.{List, ℕ}
 use Rattle.circuit_tool.specs.Ends.{Says}

@@ -1,3 +1,4 @@
+-- Each clause is a lemma on walks.
 use Rattle.decompose_tool.proofs.Walks.{walks_add_up, terms_are_below, terms_differ, nothing_fits, one_walk}
 use Rattle.decompose_tool.proofs.laws.walk_law.Goals as goal
 

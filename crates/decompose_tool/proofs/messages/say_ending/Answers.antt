@@ -1,3 +1,4 @@
+-- What is left is told, or a prefix of its line.
 use Rattle.std.proofs.Common.{subst}
 use Rattle.std.specs.Prelude.{List, ℤ}
 use Rattle.outside.specs.Pieces.{MayPut}

@@ -1,3 +1,4 @@
+-- A refusal leaves a prefix of all entries.
 use Rattle.std.proofs.Common.{arith, pos, get_or, rules, SFits, w64, to_z-of_z}
 use Rattle.std.proofs.lemmas.Result.{err_from_is_err_and}
 use Rattle.tool_top.proofs.Sequences.{entries_front}

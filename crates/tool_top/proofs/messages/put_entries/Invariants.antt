@@ -1,3 +1,4 @@
+-- The entries so far are put.
 use Rattle.std.proofs.Common.{◌≡◌, ◌≤◌, take}
 use Rattle.std.specs.Io.KnownBytes.{append_known}
 use Rattle.outside.specs.Pieces.{text_of_parts}

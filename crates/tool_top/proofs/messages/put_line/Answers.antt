@@ -1,3 +1,4 @@
+-- The words, and then the end of the line; a refusal leaves a prefix of both.
 use Rattle.std.proofs.Common.{◌∷◌, [], codes}
 use Rattle.std.proofs.lemmas.Result.{err_from_is_err_and, on_ok_weaker, on_err_weaker}
 use Rattle.tool_top.specs.Messages.{words_of}

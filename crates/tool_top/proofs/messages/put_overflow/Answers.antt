@@ -1,3 +1,4 @@
+-- The overflow's place decides between a solution and a norm.
 use Rattle.std.proofs.Common.{sym}
 use Rattle.tool_top.proofs.messages.put_overflow.Goals as goal
 

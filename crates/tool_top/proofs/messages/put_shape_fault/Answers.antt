@@ -1,3 +1,4 @@
+-- Each fault of the shape has the words that are defined for it.
 use Rattle.tool_top.proofs.messages.put_shape_fault.Goals as goal
 
 pub returns-in-SignNeeded-clause-done : goal.returns-in-SignNeeded-clause-done

@@ -1,3 +1,4 @@
+-- The file's name, and then its fault; a refusal leaves a prefix of both.
 use Rattle.std.proofs.Common.{◌≡◌, ◌∷◌, [], codes, subst}
 use Rattle.std.proofs.lemmas.Result.{err_from_is_err_and, on_ok_weaker, on_err_weaker}
 use Rattle.std.specs.Io.KnownBytes.{append_known}

@@ -1,3 +1,4 @@
+-- Each fault of a text has the words that are defined for it.
 use Rattle.tool_top.proofs.messages.put_text_fault.Goals as goal
 
 pub returns-in-NotNumber-clause-done : goal.returns-in-NotNumber-clause-done

@@ -1,3 +1,4 @@
+-- The file's name, and then its fault; a refusal leaves a prefix of both.
 use Rattle.std.proofs.Common.{◌∷◌, [], codes}
 use Rattle.std.proofs.lemmas.Result.{err_from_is_err_and, on_ok_weaker, on_err_weaker}
 use Rattle.tool_top.specs.Messages.{part_name, text_fault}

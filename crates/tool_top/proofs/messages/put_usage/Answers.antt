@@ -1,3 +1,4 @@
+-- Each tool has its own usage.
 use Rattle.tool_top.proofs.messages.put_usage.Goals as goal
 
 pub returns-in-Graver-clause-done : goal.returns-in-Graver-clause-done

@@ -1,3 +1,4 @@
+-- Each end has the words that are defined for it.
 use Rattle.tool_top.proofs.messages.put_words.Goals as goal
 
 pub returns-in-Done-clause-done : goal.returns-in-Done-clause-done

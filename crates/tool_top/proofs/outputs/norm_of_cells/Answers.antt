@@ -1,3 +1,4 @@
+-- The sum so far and the cell's absolute value stay in range.
 use Rattle.std.proofs.Common.{◌<◌, arith, rules, length, get_or, pos, SFits, w64, to_z-of_z}
 use Rattle.int_vector.proofs.Steps.{norm_more}
 use Rattle.tool_top.proofs.outputs.norm_of_cells.Goals as goal

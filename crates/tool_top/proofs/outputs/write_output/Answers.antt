@@ -1,3 +1,4 @@
+-- A refusal leaves the file cut, or all files as before where its name found no memory.
 use Rattle.std.proofs.Common.{◌≡◌, ◌∙◌, ◌++◌, ap, ◌∷◌, [], refl, sym, subst, inl}
 use Rattle.std.proofs.lemmas.Result.{err_from_is_err_and}
 use Rattle.mat_files.specs.Printed.{text_of}

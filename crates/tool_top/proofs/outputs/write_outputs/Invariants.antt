@@ -1,3 +1,4 @@
+-- What the outputs that are left still leave, all outputs leave from the start.
 use Rattle.std.proofs.Common.{◌≡◌, ◌≤◌, drop, map, Option}
 use Rattle.std.specs.Option.{option_map}
 use Rattle.outside.specs.Files.{Files}

@@ -1,3 +1,4 @@
+-- With tables a refusal leaves a prefix of both lines.
 use Rattle.std.proofs.Common.{◌≡◌, OnErr, if◌then◌else◌, [], Some, sym, subst}
 use Rattle.outside.specs.Pieces.{MayPut}
 use Rattle.tool_top.specs.Summary.{lines_of, summary_of}

@@ -1,3 +1,4 @@
+-- Refused words are an end that their plan has, with its line.
 use Rattle.std.proofs.Common.{subst}
 use Rattle.tool_top.specs.Plan.{named_project}
 use Rattle.tool_top.specs.Inside.Ends.{Asks}

@@ -1,3 +1,4 @@
+-- What the end of the job that the words ask for says, clause by clause.
 use Rattle.outside.specs.Causes.{Rose}
 use Rattle.tool_words.specs.Jobs.{job_of}
 use Rattle.tool_top.specs.Plan.{planned}

@@ -1,3 +1,4 @@
+-- At Done nothing is put; at each other end its line, or a prefix of it.
 use Rattle.std.proofs.Common.{◌≡◌, false, IsTrue}
 use Rattle.tool_top.specs.Messages.{message_of}
 use Rattle.tool_top.proofs.Speaking.{may_put, silent, spoken}

@@ -1,3 +1,4 @@
+-- With tables nothing is written; else all outputs are, or they are cut.
 use Rattle.std.proofs.Common.{◌≡◌, OnOk, IfErr, sym, subst}
 use Rattle.std.specs.Option.{option_map}
 use Rattle.tool_top.specs.Plan.{project_of}
