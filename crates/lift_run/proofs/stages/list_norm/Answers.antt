@@ -1,3 +1,4 @@
+-- The grown list is that of the norm, or it is longer than the limit.
 use Rattle.std.proofs.Common.{arith}
 use Rattle.lift_run.specs.Runs.{bounds}
 use Rattle.lift_run.proofs.Walking.{closing, over_rows}

@@ -1,3 +1,4 @@
+-- The next norm is out of range, or its pairs are more than the limit.
 use Rattle.std.proofs.Common.{subst, arith}
 use Rattle.std.specs.Prelude.{Some}
 use Rattle.stage_store.specs.Answers.{IsNext}

@@ -1,3 +1,4 @@
+-- A run over stages is the walk of the lists in hand, and from defined lists the defined one.
 use Rattle.lift_run.specs.Runs.{bounds}
 use Rattle.lift_run.proofs.Walking.{end_from, walk_of, told_of}
 use Rattle.lift_run.proofs.stages.run.Goals as goal

@@ -1,3 +1,4 @@
+-- One norm more is closed, or the run ends in this stage.
 use Rattle.std.proofs.Common.{rules, arith, refl, ◌∙◌}
 use Rattle.lift_run.specs.Runs.{bounds}
 use Rattle.lift_run.proofs.Walking.{stays, goes_further, closes_stop, told_here}

@@ -1,3 +1,4 @@
+-- One stage more is done, or the run ends.
 use Rattle.std.proofs.Common.{rules, arith, refl, ◌∙◌}
 use Rattle.lift_run.specs.Runs.{bounds}
 use Rattle.lift_run.proofs.Walking.{stays, goes_next, goes_last, goes_nowhere, runs_stop, fewer_left, leads_system}

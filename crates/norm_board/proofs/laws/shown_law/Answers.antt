@@ -1,3 +1,4 @@
+-- Each clause is a lemma on one step of the board.
 use Rattle.norm_board.proofs.Shown as shown
 use Rattle.norm_board.proofs.Ends.{closes_show}
 use Rattle.norm_board.proofs.laws.shown_law.Goals as goal

@@ -1,3 +1,4 @@
+-- A run that follows on the last one is joined to it, and any other is put behind it.
 use Rattle.std.proofs.Common.{◌≡◌, ◌∙◌, ◌++◌, ◌∷◌, [], List, ap, sym, refl}
 use Rattle.norm_board.specs.declared.runs.Run.{Run}
 use Rattle.norm_board.specs.Inside.NumberRuns.{numbers_of, count_up}

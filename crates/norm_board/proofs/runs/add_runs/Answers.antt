@@ -1,3 +1,4 @@
+-- One run more is added.
 use Rattle.std.proofs.Common.{arith}
 use Rattle.norm_board.specs.Inside.NumberRuns.{numbers_of}
 use Rattle.norm_board.proofs.NumberRuns.{numbers_added}

@@ -1,3 +1,4 @@
+-- The runs so far are added, and there is room for those that are left.
 use Rattle.std.proofs.Common.{◌≡◌, ◌≤◌, ◌+◌, ◌++◌, take, vec_len, vec_capacity}
 use Rattle.std.specs.List.{AllByRecursion}
 use Rattle.norm_board.specs.Inside.NumberRuns.{numbers_of, IsRun}

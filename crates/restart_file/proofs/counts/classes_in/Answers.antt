@@ -1,3 +1,4 @@
+-- Where the line is no classes, or one of its counts is too large, no counts fit it.
 use Rattle.std.proofs.Common.{◌≡◌, ◌≤◌, true, sym, subst, ℕ, List}
 use Rattle.std.specs.List.{AllByRecursion}
 use Rattle.int_vector.specs.Vectors.{largest}

@@ -1,3 +1,4 @@
+-- Where the line is none of the word, or its count is too large, no count fits it.
 use Rattle.std.proofs.Common.{arith, ap, refl, ◌≡◌, ◌∷◌, [], true, get_or, List, ℕ}
 use Rattle.restart_file.proofs.counts.count_in.Goals as goal
 

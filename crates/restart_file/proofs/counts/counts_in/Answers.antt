@@ -1,3 +1,4 @@
+-- The line is that of the counts exactly where its cells are counts.
 use Rattle.std.proofs.Common.{arith, ap, sym, ◌∙◌, ◌≡◌, ◌++◌, ◌∷◌, [], ℕ, List, length, true, subst}
 use Rattle.std.specs.Prelude.{ℤ, pos, map}
 use Rattle.std.proofs.lemmas.List.{length-map, length-take-le}

@@ -1,3 +1,4 @@
+-- A cell below 0 is no count, and all others are.
 use Rattle.std.proofs.Common.{arith, refl, ap, sym, ◌∙◌, get_or, rules, SFits, w64, to_z-of_z}
 use Rattle.std.specs.Prelude.{pos, int_lt}
 use Rattle.restart_file.proofs.CountLines.{counts_alone, no_count_below}

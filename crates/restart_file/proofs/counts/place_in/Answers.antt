@@ -1,3 +1,4 @@
+-- The line's two counts are the only place that it can say.
 use Rattle.std.proofs.Common.{arith, refl, ◌≡◌, ◌∷◌, [], true, get_or}
 use Rattle.restart_file.proofs.CountLines.{place_found, two_counts}
 use Rattle.restart_file.proofs.counts.place_in.Goals as goal

@@ -1,3 +1,4 @@
+-- A cap more is put, with a space behind it where it is not the last.
 use Rattle.std.proofs.Common.{ℕ, ap, arith, ◌∙◌, ◌≡◌, length}
 use Rattle.std.specs.Global.{Vec}
 use Rattle.restart_file.proofs.Spacing.{cap_and_space, cap_alone, caps_end, caps_length}

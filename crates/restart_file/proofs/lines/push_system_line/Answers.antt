@@ -1,3 +1,4 @@
+-- The rows stand behind three lines in the first version, and behind four in the second.
 use Rattle.std.proofs.Common.{rules, ◌≤◌}
 use Rattle.restart_file.specs.Texts.{tool_line, shape_line, signs_line, caps_line}
 use Rattle.restart_file.proofs.Spacing.{row_behind_three, row_behind_four}

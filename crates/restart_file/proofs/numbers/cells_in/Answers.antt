@@ -1,3 +1,4 @@
+-- The cells that are guessed are those of the line, where it is a line of cells.
 use Rattle.std.proofs.Common.{ap, sym, ◌∙◌, ◌≡◌, ◌++◌, drop, length}
 use Rattle.mat_files.specs.Texts.{line_of}
 use Rattle.restart_file.proofs.Numerals.{drop_length, found_equal}

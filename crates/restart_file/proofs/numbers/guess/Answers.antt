@@ -1,3 +1,4 @@
+-- One cell more is guessed from the next word.
 use Rattle.std.proofs.Common.{rules, arith, length, ◌<◌, subst, sym, SFits, w64, to_z, of_z, to_z-of_z, ◌∙◌}
 use Rattle.std.proofs.lemmas.List.{length-set}
 use Rattle.std.specs.Prelude.{ℤ}

@@ -1,3 +1,4 @@
+-- Where the text is a line of cells, those so far are guessed and the rest of it is left.
 use Rattle.std.proofs.Common.{◌≡◌, length, List}
 use Rattle.std.specs.Prelude.{ℤ}
 use Rattle.std.specs.List.{AllByRecursion, AllWithin}

@@ -1,3 +1,4 @@
+-- A word that writes a number in range is read as that number.
 use Rattle.std.proofs.Common.{ap, ◌∙◌, ◌≡◌, rules, to_z-of_z, SFits, w64}
 use Rattle.std.specs.Prelude.{Some}
 use Rattle.restart_file.proofs.Numerals.{utf8_signed, parsed_signed}

@@ -1,3 +1,4 @@
+-- One byte more is taken, or the file ends.
 use Rattle.std.proofs.Common.{arith, ap, ◌∙◌, ◌≡◌, drop, take, ℕ}
 use Rattle.restart_file.specs.Inside.Windows.{Tells}
 use Rattle.restart_file.proofs.Remainders.{no_byte, some_byte, taken_more, taken_to_end, tells_same}

@@ -1,3 +1,4 @@
+-- One byte more is taken, the line ends, or the file ends before it.
 use Rattle.std.proofs.Common.{arith, ◌∙◌, drop}
 use Rattle.restart_file.specs.Inside.Windows.{Tells}
 use Rattle.restart_file.proofs.Remainders.{no_byte, no_line_left, no_line_yet, plain_more, some_byte, taken_line, taken_more, tells_same}

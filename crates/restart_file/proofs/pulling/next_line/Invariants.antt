@@ -1,3 +1,4 @@
+-- The bytes so far are taken, and none of them ends a line.
 use Rattle.std.proofs.Common.{◌≡◌, ◌≤◌, ℕ, List}
 use Rattle.restart_file.specs.Inside.Windows.{IsLeft, IsPlain, IsTaken, Tells}
 use Rattle.restart_file.proofs.pulling.next_line.Given as goal

@@ -1,3 +1,4 @@
+-- The bytes that are read are those of the file from this place on.
 use Rattle.std.proofs.Common.{arith, ap, sym, subst, length, ℕ, List}
 use Rattle.std.specs.Prelude.{IfOk}
 use Rattle.outside.specs.Files.{ReadsFrom}

@@ -1,3 +1,4 @@
+-- The draft ends where the last line alone is left and the used pairs are enough; else there is a fault.
 use Rattle.std.proofs.Common.{arith, rules, ◌≡◌, ◌≢◌}
 use Rattle.restart_file.specs.declared.dues.Due.TheVariants.{LastLine}
 use Rattle.restart_file.specs.Reading.{reads_end, reads_too_few}

@@ -1,3 +1,4 @@
+-- The next line is one step of the reading, or its fault.
 use Rattle.std.proofs.Common.{◌≡◌, subst, true, false, ℕ, List}
 use Rattle.restart_file.specs.Inside.Drafts.{Steps, cursor_of, progress_in}
 use Rattle.restart_file.proofs.LineByLine.{line_cause, line_read, line_sound, no_line_read}

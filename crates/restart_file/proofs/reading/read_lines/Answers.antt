@@ -1,3 +1,4 @@
+-- One line more is read, or the first fault is found.
 use Rattle.std.proofs.Common.{arith, rules, refl, sym, subst, ◌∙◌, ◌≡◌, ◌≢◌, ℕ, []}
 use Rattle.restart_file.specs.declared.dues.Due.TheVariants.{LastLine}
 use Rattle.restart_file.specs.Reading.{Cursor}

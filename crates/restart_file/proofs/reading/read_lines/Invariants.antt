@@ -1,3 +1,4 @@
+-- The draft is what the lines so far say, and it is sound.
 use Rattle.std.proofs.Common.{◌≡◌, ◌≤◌, ◌+◌, ℕ, List, length}
 use Rattle.restart_file.specs.Inside.Drafts.{HasWidths, IsSound, cursor_of}
 use Rattle.restart_file.specs.Inside.Ways.{IsOnTheWay}

@@ -1,3 +1,4 @@
+-- The file is not there, its digest is wrong, or what its lines say is found.
 use Rattle.std.proofs.Common.{◌≡◌, true}
 use Rattle.std.specs.Prelude.{Err}
 use Rattle.restart_file.specs.declared.ends.RestartEnd.TheVariants.{Bad}

@@ -1,3 +1,4 @@
+-- The last row decides, as the rows before it ascend.
 use Rattle.std.proofs.Common.{arith, ap, sym, refl, ◌∙◌, ◌≡◌, ◌-◌, ◌+◌, length, get_or, List, Less, []}
 use Rattle.std.specs.Prelude.{ℤ}
 use Rattle.lift_core.specs.Stages.{norm_cmp}

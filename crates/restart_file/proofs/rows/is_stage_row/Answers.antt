@@ -1,3 +1,4 @@
+-- Each test is a part of what a stage's vector is, and together they are all of it.
 use Rattle.std.proofs.Common.{◌≡◌, ◌∙◌, sym, true, get_or, rules, SFits, w64, to_z-of_z}
 use Rattle.std.specs.Prelude.{pos}
 use Rattle.restart_file.proofs.StageRows.{makes_row, row_norm, row_obeys, row_product, row_solves}

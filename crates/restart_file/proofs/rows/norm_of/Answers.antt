@@ -1,3 +1,4 @@
+-- The norm is that of all entries but the last, and in range.
 use Rattle.std.proofs.Common.{arith, ap, sym, ◌∙◌, ◌≡◌, ◌-◌, length, take}
 use Rattle.int_vector.specs.Vectors.{norm}
 use Rattle.lift_core.specs.Stages.{front}

@@ -1,3 +1,4 @@
+-- One piece more is hashed.
 use Rattle.std.proofs.Common.{arith, ◌∙◌, ◌≡◌, ◌-◌, ◌+◌, take, length}
 use Rattle.restart_file.specs.Inside.Windows.{IsHashed, Tells}
 use Rattle.restart_file.proofs.Remainders.{tells_same}

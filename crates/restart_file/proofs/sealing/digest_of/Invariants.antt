@@ -1,3 +1,4 @@
+-- The bytes so far are hashed, and those that are left are in the window.
 use Rattle.std.proofs.Common.{◌≡◌, ◌≤◌, ◌-◌, ◌+◌, ℕ, List, length}
 use Rattle.restart_file.specs.Inside.Windows.{IsHashed, IsLeft, Tells}
 use Rattle.restart_file.proofs.sealing.digest_of.Given as goal

@@ -1,3 +1,4 @@
+-- The bytes that are hashed are the next ones of the file.
 use Rattle.std.proofs.Common.{arith, refl, ap, take, drop, ℕ, List}
 use Rattle.restart_file.proofs.Seals.{hashed_all, hashed_more}
 use Rattle.restart_file.proofs.sealing.hash_piece.Goals as goal

@@ -1,3 +1,4 @@
+-- A file that is too short or too long has no digest; else its last line decides.
 use Rattle.std.proofs.Common.{arith, inl, inr, ap, refl, sym, ◌∙◌, ◌≡◌, ◌-◌, ◌++◌, ◌∷◌, [], drop, List, ℕ}
 use Rattle.std.specs.Prelude.{codes}
 use Rattle.hex.specs.Hex.{encode_lower}

@@ -1,3 +1,4 @@
+-- The digest's line ends the text, or a refusal leaves a prefix.
 use Rattle.std.proofs.lemmas.Result.{err_from_is_err_and}
 use Rattle.std.proofs.Common.{ap, ◌∙◌, ◌++◌, ◌∷◌, []}
 use Rattle.std.specs.Prelude.{codes}

@@ -1,3 +1,4 @@
+-- The piece is sent, or a refusal leaves a prefix.
 use Rattle.std.proofs.lemmas.Result.{err_from_is_err_and}
 use Rattle.std.proofs.Common.{ℕ, List, ◌++◌, subst}
 use Rattle.sha2.specs.Hashers.{Holds256}

@@ -1,3 +1,4 @@
+-- One line more is in the piece or sent, or a refusal leaves a prefix.
 use Rattle.std.proofs.lemmas.Result.{err_from_is_err_and}
 use Rattle.std.proofs.Common.{arith, ap, ◌++◌, ◌+◌, drop, List, [], ℕ}
 use Rattle.std.specs.List.{concat}

@@ -1,3 +1,4 @@
+-- What is sent, the piece in hand and the lines that are left are the whole text.
 use Rattle.std.proofs.Common.{◌≤◌, ◌++◌, drop}
 use Rattle.std.specs.List.{concat}
 use Rattle.restart_file.specs.declared.lines.Version.TheVariants.{Second}

@@ -1,3 +1,4 @@
+-- Each clause is a lemma on selections.
 use Rattle.solution_files.specs.Outputs.{kind_of}
 use Rattle.solution_files.proofs.WantedLists.{wanted_plain, wanted_graver}
 use Rattle.solution_files.proofs.GridText.{text_of-rows}

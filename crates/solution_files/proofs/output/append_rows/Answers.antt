@@ -1,3 +1,4 @@
+-- A line more is written, and when none is left the text is whole.
 use Rattle.std.proofs.Common.{◌≡◌, ◌<◌, ◌+◌, arith, length, take, drop}
 use Rattle.std.proofs.lemmas.Result.{err_from_is_err_and}
 use Rattle.solution_files.proofs.Writing.{row_fits, rest_fits, one_line_more, one_line_refused, no_line_more}

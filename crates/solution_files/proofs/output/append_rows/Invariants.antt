@@ -1,3 +1,4 @@
+-- The lines so far are written, and the cells that are left are those of the lines to come.
 use Rattle.std.proofs.Common.{◌≡◌, ◌≤◌, ◌-◌, ◌*◌, ℕ, List, Option, length}
 use Rattle.outside.specs.Files.{Files}
 use Rattle.mat_files.specs.Printed.{lines_of}

@@ -1,3 +1,4 @@
+-- The line of the counts begins the text, and the rows end it or a refusal cuts it.
 use Rattle.std.proofs.Common.{rules, ap, ◌∙◌, pos}
 use Rattle.std.proofs.lemmas.Result.{err_from_is_err_and}
 use Rattle.mat_files.specs.Printed.{text_of}

@@ -1,3 +1,4 @@
+-- The search finds the negative exactly where it is among the rows.
 use Rattle.std.proofs.Common.{rules, ap, ◌∙◌}
 use Rattle.int_vector.specs.Vectors.{lex_cmp}
 use Rattle.lift_core.specs.Inside.OrderedRows.{rows_behind}

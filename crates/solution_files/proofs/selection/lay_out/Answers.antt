@@ -1,3 +1,4 @@
+-- The cells of all rows are a matrix in range.
 use Rattle.std.proofs.Common.{length, sym}
 use Rattle.std.proofs.lemmas.List.{length-map}
 use Rattle.lift_core.specs.Inside.OrderedRows.{rows_behind}

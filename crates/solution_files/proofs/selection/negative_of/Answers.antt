@@ -1,3 +1,4 @@
+-- One entry more is negated.
 use Rattle.std.proofs.Common.{rules, ◌≡◌, ◌+◌, ◌++◌, [], ◌∷◌, pos, get_or, refl, ap, ◌∙◌, drop, SFits, w64, to_z-of_z}
 use Rattle.std.specs.Prelude.{neg_ℤ}
 use Rattle.int_vector.specs.Range.{InRange}

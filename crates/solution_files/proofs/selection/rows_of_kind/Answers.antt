@@ -1,3 +1,4 @@
+-- A row of the kind is taken, and any other passed over.
 use Rattle.std.proofs.Common.{◌≡◌, ◌<◌, ◌≤◌, ◌+◌, ◌++◌, [], ◌∷◌, length, sym, ap, ◌∙◌, arith, length-append, drop, subst, true}
 use Rattle.int_vector.specs.Range.{InRange}
 use Rattle.lift_core.specs.Kinds.{HasX0}

@@ -1,3 +1,4 @@
+-- The rows so far, and those that are left, are all of the kind.
 use Rattle.std.proofs.Common.{◌≡◌, ◌≤◌, ◌++◌, drop, length}
 use Rattle.solution_files.specs.Outputs.{kind_of}
 use Rattle.lift_core.specs.Inside.OrderedRows.{rows_behind}

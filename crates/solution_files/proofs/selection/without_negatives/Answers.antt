@@ -1,3 +1,4 @@
+-- A row stays, or it leads negative and its negative is a row.
 use Rattle.std.proofs.Common.{◌≡◌, ◌+◌, ◌++◌, [], ◌∷◌, List, length, get_or, sym, ap, ◌∙◌, arith, Bor, ℤ, length-append, refl, false, drop}
 use Rattle.std.specs.List.{AllByRecursion, filter}
 use Rattle.int_vector.specs.Range.{InRange}

@@ -1,3 +1,4 @@
+-- The rows so far, and those that are left, are all that stay.
 use Rattle.std.proofs.Common.{◌≡◌, ◌≤◌, ◌++◌, drop, length}
 use Rattle.std.specs.List.{filter}
 use Rattle.lift_core.specs.Inside.OrderedRows.{rows_behind}

@@ -1,3 +1,4 @@
+-- The system fits the files, or the fault is their first.
 use Rattle.std.proofs.Common.{ap}
 use Rattle.system_shape.specs.Shape.{shape_fault, tool_system}
 use Rattle.system_files.specs.Inputs.{unless_fault}

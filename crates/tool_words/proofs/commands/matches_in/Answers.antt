@@ -1,3 +1,4 @@
+-- The command is simple and free, so what is found in the words is what its rules say.
 use Rattle.std.proofs.Common.{ap, map, ◌∙◌, subst}
 use Rattle.std.proofs.lemmas.Result.{IfOk-weaker}
 use Rattle.clap.specs.Kinds.{FailsBy}

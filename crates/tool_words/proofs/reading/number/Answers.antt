@@ -1,3 +1,4 @@
+-- A text is a number within the limits, or it is none.
 use Rattle.std.proofs.Common.{rules}
 use Rattle.tool_words.proofs.Digits.{number_found, number_lost}
 use Rattle.tool_words.proofs.reading.number.Goals as goal

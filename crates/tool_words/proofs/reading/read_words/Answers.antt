@@ -1,3 +1,4 @@
+-- What is found in the words makes their job, and what refuses them makes none.
 use Rattle.std.proofs.Common.{◌≡◌, ◌∙◌, ap, map, sym, subst, List, ℕ}
 use Rattle.std.specs.Borrow.{Bor}
 use Rattle.clap.specs.Walk.{rows_of}

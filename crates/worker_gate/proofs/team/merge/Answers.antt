@@ -1,3 +1,4 @@
+-- One worker more is taken in.
 use Rattle.std.proofs.Common.{◌≡◌, ◌∙◌, ◌++◌, ◌∷◌, [], List, ℕ, Some, ap, arith}
 use Rattle.std.proofs.lemmas.List.Elements.{All-pop, All-push}
 use Rattle.lift_core.specs.Times.{total_of}

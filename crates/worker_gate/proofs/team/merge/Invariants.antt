@@ -1,3 +1,4 @@
+-- What is put together and what is left of the team are together what all of them were.
 use Rattle.std.proofs.Common.{◌≡◌, ◌+◌, true, [], All, vec_len}
 use Rattle.lift_core.specs.Times.{total_of}
 use Rattle.norm_board.specs.Seen.{view}

@@ -1,3 +1,4 @@
+-- A worker that has done nothing is ready.
 use Rattle.std.proofs.Common.{ap, arith, ◌∙◌, sym, subst₂}
 use Rattle.lift_core.specs.Times.{times}
 use Rattle.norm_board.specs.Books.{BookValue}

@@ -1,3 +1,4 @@
+-- One worker more takes a unit of the weight.
 use Rattle.std.proofs.Common.{◌≡◌, ap, ◌∙◌, arith}
 use Rattle.std.proofs.lemmas.List.Elements.{All-push}
 use Rattle.norm_board.specs.Seen.{view}

@@ -1,3 +1,4 @@
+-- The workers so far are ready and empty, and the pass has the weight that is left.
 use Rattle.std.proofs.Common.{◌≡◌, ◌≤◌, ◌+◌, false, [], All, vec_len, vec_capacity}
 use Rattle.lift_core.specs.Times.{total_of}
 use Rattle.norm_board.specs.Seen.{view, Belongs}

@@ -1,3 +1,4 @@
+-- A worker may go to another thread, and what all of them look at may be shared.
 use Rattle.std.proofs.Common.{rules}
 use denote.Param.Send.{sendable}
 use Rattle.std.proofs.Crossing.{crosses}

@@ -1,3 +1,4 @@
+-- The joined pass has all the weight, and nothing is left where no put was missed.
 use Rattle.std.proofs.Common.{◌∙◌, sym}
 use Rattle.worker_gate.proofs.Teams.{ended_weight, ended_empty}
 use Rattle.worker_gate.proofs.team.run_norm.Goals as goal

@@ -1,3 +1,4 @@
+-- No block was drawn by both, so the joined pass has drawn the blocks of both shares.
 use Rattle.std.proofs.Common.{◌∙◌, ap}
 use Rattle.norm_board.specs.declared.rule.View.{View}
 use Rattle.norm_board.specs.Seen.{view}

@@ -1,3 +1,4 @@
+-- The put keeps the blocks of the share, or leaves them where they are.
 use Rattle.norm_board.specs.Seen.{view}
 use Rattle.worker_gate.proofs.Works.{may, put_leaves, leaves_of, put_empty}
 use Rattle.worker_gate.proofs.worker.put_share.Goals as goal

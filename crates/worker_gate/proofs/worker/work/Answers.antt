@@ -1,3 +1,4 @@
+-- One block more is drawn and worked out.
 use Rattle.std.proofs.Common.{ap, ◌∙◌, arith}
 use Rattle.norm_board.specs.declared.rule.View.{View}
 use Rattle.worker_gate.proofs.Works.{has_stepped, draw_gains, leaves_gains, last_drawn}

@@ -1,3 +1,4 @@
+-- The pass has drawn what its share has and what it has kept, and each turn draws a later block.
 use Rattle.std.proofs.Common.{◌≡◌, ◌≤◌, ◌<◌, ◌-◌}
 use Rattle.lift_core.specs.Times.{times}
 use Rattle.norm_board.specs.Seen.{view}

@@ -1,3 +1,4 @@
+-- The blocks of the book and those that are left are all blocks, so the list is that of the norm.
 use Rattle.std.proofs.Common.{refl, arith, ◌≡◌, ◌+◌, ◌≤◌, sym, ◌∙◌, ap, subst}
 use Rattle.lift_core.specs.ToolSystems.{width}
 use Rattle.lift_core.specs.Times.{once_below}

@@ -1,3 +1,4 @@
+-- The rule allows the draw, and the pass has the block that it drew.
 use Rattle.std.proofs.Common.{arith, ◌≡◌, ◌<◌, ◌∷◌, [], false, sym, ◌∙◌, ap}
 use Rattle.lift_core.specs.Times.{times}
 use Rattle.norm_board.specs.declared.rule.Plan.{Plan}

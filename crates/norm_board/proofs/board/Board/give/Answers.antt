@@ -1,3 +1,4 @@
+-- The rule allows to put the book back and then to give the turn back.
 use Rattle.std.proofs.Common.{arith, ◌≡◌, ◌<◌, sym, ◌∙◌, ap, subst}
 use Rattle.atomic_table.specs.Table.{Me, Allows, step}
 use mathlib.Core.Option.{none}

@@ -1,3 +1,4 @@
+-- The rule allows the join, and what the joined pass has is what both had.
 use Rattle.std.proofs.Common.{arith, ◌≡◌, ◌<◌, ◌||◌, Bool, sym, ◌∙◌, ap}
 use Rattle.atomic_table.specs.Table.{Me}
 use Rattle.lift_core.specs.Times.{times}

@@ -1,3 +1,4 @@
+-- The turn is given back with the share's blocks, or as it was found.
 use Rattle.std.proofs.Common.{◌∙◌}
 use Rattle.norm_board.proofs.Puts.{may_put, may_back, has_put, has_back}
 use Rattle.norm_board.proofs.board.Board.put.Goals as goal

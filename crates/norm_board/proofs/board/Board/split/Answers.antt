@@ -1,3 +1,4 @@
+-- The rule allows the split, as the pass has weight to give.
 use Rattle.std.proofs.Common.{arith, ◌≤◌, ap}
 use Rattle.norm_board.specs.Seen.{PassValue}
 use Rattle.norm_board.proofs.Own.{same_table}

@@ -1,3 +1,4 @@
+-- The rule allows to ask for the turn, and who has it finds the book.
 use Rattle.std.proofs.Common.{arith, ◌<◌, ◌∷◌, List, ℕ, sym, ◌∙◌, ap}
 use Rattle.std.specs.Prelude.{Some}
 use Rattle.atomic_table.specs.Table.{Me, rest}

@@ -1,3 +1,4 @@
+-- With the block's irreducible sums the book has those of all its blocks.
 use Rattle.std.proofs.Common.{◌≡◌, ◌+◌, ◌*◌, ◌∙◌, ℕ, arith, ap, sym, subst, subst₂, false, true}
 use Rattle.stage_store.specs.Stage.{StageValue}
 use Rattle.norm_board.specs.Books.{BookValue}

@@ -1,3 +1,4 @@
+-- The sums of both books are those of the blocks of both.
 use Rattle.std.proofs.Common.{◌≡◌, ◌∙◌, ◌++◌, ℕ, List, ap, sym, subst, arith, false, true}
 use Rattle.std.specs.Prelude.{ℤ}
 use Rattle.norm_board.specs.Books.{BookValue}

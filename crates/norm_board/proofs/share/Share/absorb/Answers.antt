@@ -1,3 +1,4 @@
+-- Each share keeps its stage and its scratch, whichever of both books the rows are in.
 use Rattle.std.proofs.Common.{◌∙◌}
 use Rattle.norm_board.proofs.share.Share.absorb.Goals as goal
 
