@@ -4,7 +4,7 @@ use Rattle.std.specs.Prelude.{Some}
 use Rattle.atomic_table.specs.Table.{Me, rest}
 use Rattle.norm_board.specs.Books.{BookValue}
 use Rattle.norm_board.specs.Rule.{S, giving}
-use Rattle.norm_board.specs.Inside.Kept.{hand}
+use Rattle.norm_board.specs.Inside.Fields.{hand}
 use Rattle.norm_board.specs.declared.rule.View.{View}
 
 -- after the exchange the pass has the book in hand, and nothing else

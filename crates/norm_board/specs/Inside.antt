@@ -1,3 +1,3 @@
 pub mod NumberRuns
-pub mod Kept
+pub mod Fields
 pub mod Plays

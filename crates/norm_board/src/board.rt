@@ -30,7 +30,7 @@ pub struct Board<'s> {
 
 impl<'s> Model for Board<'s> {
     ghost use Rattle.norm_board.specs.Seen.{BoardValue};
-    ghost use Rattle.norm_board.specs.Inside.Kept.{BoardOk};
+    ghost use Rattle.norm_board.specs.Inside.Fields.{BoardOk};
 
     ghost Value = { BoardValue };
 

@@ -27,7 +27,7 @@ pub struct Book {
 
 impl Model for Book {
     ghost use Rattle.norm_board.specs.Books.{BookValue};
-    ghost use Rattle.norm_board.specs.Inside.Kept.{BookOk};
+    ghost use Rattle.norm_board.specs.Inside.Fields.{BookOk};
 
     ghost Value = { BookValue };
 

@@ -21,7 +21,7 @@ pub struct Pass {
 
 impl Model for Pass {
     ghost use Rattle.norm_board.specs.Seen.{PassValue};
-    ghost use Rattle.norm_board.specs.Inside.Kept.{PassOk};
+    ghost use Rattle.norm_board.specs.Inside.Fields.{PassOk};
 
     ghost Value = { PassValue };
 

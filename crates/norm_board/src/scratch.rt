@@ -1,7 +1,7 @@
 //! What a worker needs beside its book to work out a block.
 
 ghost use Rattle.std.specs.Prelude.{◌≡◌, true, is_some, IfOk, OnOk};
-ghost use Rattle.norm_board.specs.Inside.Kept.{HasLength};
+ghost use Rattle.norm_board.specs.Inside.Fields.{HasLength};
 
 use stage_store::Hints;
 use std::alloc::{AllocError, Global};

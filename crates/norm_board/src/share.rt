@@ -27,7 +27,7 @@ pub struct Share<'s> {
 
 impl<'s> Model for Share<'s> {
     ghost use Rattle.norm_board.specs.Books.{BookValue};
-    ghost use Rattle.norm_board.specs.Inside.Kept.{ShareOk};
+    ghost use Rattle.norm_board.specs.Inside.Fields.{ShareOk};
 
     ghost Value = { BookValue };
 

@@ -6,7 +6,7 @@ use Rattle.lift_core.specs.Times.{times}
 use Rattle.norm_board.specs.Rule.{S, Ruled, giving, past, IsBookOf, MayGive}
 use Rattle.norm_board.specs.Inside.Plays.{gave}
 use Rattle.norm_board.specs.Seen.{PassValue, BoardValue}
-use Rattle.norm_board.specs.Inside.Kept.{hand}
+use Rattle.norm_board.specs.Inside.Fields.{hand}
 use Rattle.norm_board.specs.declared.rule.Plan.{Plan}
 use Rattle.norm_board.specs.declared.rule.View.{View}
 use Rattle.lift_core.proofs.Times.{times-append}

@@ -4,7 +4,7 @@ use Rattle.atomic_table.specs.Table.{Me}
 use Rattle.lift_core.specs.Times.{times}
 use Rattle.norm_board.specs.Rule.{S}
 use Rattle.norm_board.specs.Seen.{PassValue}
-use Rattle.norm_board.specs.Inside.Kept.{hand}
+use Rattle.norm_board.specs.Inside.Fields.{hand}
 use Rattle.norm_board.specs.declared.rule.View.{View}
 use Rattle.lift_core.proofs.Times.{times-append}
 use Rattle.norm_board.proofs.Own.{same_table, same_plan}
