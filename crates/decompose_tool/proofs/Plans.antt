@@ -25,7 +25,7 @@ use Rattle.decompose_tool.specs.declared.walking.Walk.{Walk}
 use Rattle.decompose_tool.specs.Requests.{asked_in}
 use Rattle.decompose_tool.specs.Sets.{Plan, first_file, fitting, second_fitting, point_fitting, all_fitting, sets_in, of_input, planned}
 use Rattle.decompose_tool.specs.Rows.{is_zero, times_of, set_parts, point_of, IsSound, AreSound, HoldWanted}
-use Rattle.decompose_tool.specs.Ends.{end_of, EndsWith, Ends, NothingLeft, system_of, AreAllSound}
+use Rattle.decompose_tool.specs.Ends.{end_of, EndsWith, Ends, NothingLeft, planned_system, AreAllSound}
 use Rattle.decompose_tool.specs.Inside.Steps.{user_of, IsRead, AreInShape, Walked, plan_of}
 use Rattle.decompose_tool.proofs.Candidates.{test_of_zero, each_first, each_second, of_parts, all_there}
 use Rattle.decompose_tool.proofs.Filling.{each_at}
@@ -129,7 +129,7 @@ module _ (words : List (List ℕ)) (tool : Tool) (project : List ℕ) (s : Shape
   whole_at (Some files) result input found never = λ p e wanted rest left.
       let is : planned words files ≡ Ok (plan_of project s sets) = planned_is words files tool project s sets n asked input cols found tool_is in
       let same : p ≡ plan_of project s sets = same_plan (plan_of project s sets) p (planned words files) is e in
-      never (subst (λ (q : Plan). HoldWanted q.tool (system_of q) q.sets) same wanted) rest (is_left result rest left)
+      never (subst (λ (q : Plan). HoldWanted q.tool (planned_system q) q.sets) same wanted) rest (is_left result rest left)
 
   pub whole_finished : (old mid : Option Files) (result : Result Ending Stop) → mid ≡ old → IfSome old (λ files. of_input (accepted_in tool project files) ≡ Ok s.input) →
       IfSome mid (λ files. sets_in tool n project files ≡ Ok sets) → (HoldWanted s.system.tool (user_of s) sets → (rest : List ℤ) → result ≡ Ok (Left rest) → ⊥) →

@@ -76,22 +76,22 @@ output_of n terms = record {
 }
 
 -- ---- what the run of a plan comes to
-abbrev pub system_of : Plan → UserSystem
-system_of p = user_system p.tool p.input
+abbrev pub planned_system : Plan → UserSystem
+planned_system p = user_system p.tool p.input
 
 -- the full vector of the point
 abbrev pub full_point : Plan → List ℤ
-full_point p = full_vector (system_of p) (times_of p.tool) (point_of p.sets)
+full_point p = full_vector (planned_system p) (times_of p.tool) (point_of p.sets)
 
 -- each row of each file is taken
 abbrev pub AreAllSound : Plan → Type 0
-AreAllSound p = AllByRecursion (AreSound (system_of p)) (all_parts p.tool p.sets)
+AreAllSound p = AllByRecursion (AreSound (planned_system p)) (all_parts p.tool p.sets)
 
 -- the walk over the candidates of the set from the full vector of the point
 pub record IsWalkOf (p : Plan) (candidates : List (List ℤ)) (terms : List Term) (left : List ℤ)
     : Type 0 where
   pub sound : AreAllSound p
-  pub candidates_are : AreCandidates p.tool (system_of p) (set_parts p.tool p.sets) candidates
+  pub candidates_are : AreCandidates p.tool (planned_system p) (set_parts p.tool p.sets) candidates
   pub walk : IsWalk candidates (full_point p) terms left
 
 -- the terms add up to the vector, each is below it, and no two are the same
@@ -136,7 +136,7 @@ abbrev pub EndsWith : Plan → Traces → Result Ending Stop → Type 0
 EndsWith p t (Ok (Done count)) = IsDone p t count
 EndsWith p t (Ok (Left rest)) = IsLeft p t rest
 EndsWith p t (Err (Row f i fault)) =
-    IsFirstFault (system_of p) (all_parts p.tool p.sets) f i fault × IsUntouched t
+    IsFirstFault (planned_system p) (all_parts p.tool p.sets) f i fault × IsUntouched t
 EndsWith p t (Err Outside) = IsUntouched t ⊎ IsCutShort p t
 EndsWith p t (Err Memory) = IsUntouched t ⊎ IsCutShort p t
 EndsWith p t (Err Usage) = ⊥
@@ -159,7 +159,7 @@ Ends plan t (Err Memory) = IsUntouched t ⊎ ((p : Plan) × (plan ≡ Ok p) × I
 -- where the set files hold what the tool writes, nothing is left
 abbrev pub NothingLeft : Result Plan Stop → DecEnd → Type 0
 NothingLeft plan result =
-    (p : Plan) → plan ≡ Ok p → HoldWanted p.tool (system_of p) p.sets
+    (p : Plan) → plan ≡ Ok p → HoldWanted p.tool (planned_system p) p.sets
     → (rest : List ℤ) → result ≡ end.Left rest → ⊥
 
 -- ---- the steps of the writing

@@ -4,7 +4,7 @@ ghost use Rattle.std.specs.Prelude.{◌≡◌, ◌≤◌, ◌<◌, ◌+◌, ◌+
 ghost use Rattle.lift_core.specs.Times.{total_of};
 ghost use Rattle.norm_board.specs.Seen.{view, Belongs};
 ghost use Rattle.worker_gate.specs.Work.{IsWorker, IsFresh};
-ghost use Rattle.worker_gate.specs.Inside.Team.{IsReady, IsEmpty, HasEnded, AllEnded, IsDone, IsFine, weight_of, missed_of};
+ghost use Rattle.worker_gate.specs.Inside.Team.{IsReady, IsEmpty, HasEnded, AllEnded, MayMerge, IsFine, weight_of, missed_of};
 
 use crate::gate::Gate;
 use crate::record::Worker;
@@ -119,7 +119,7 @@ fn recruit_all<'s>(
 // The passes are joined, and the shares that are left are put together.
 fn merge<'s>(board: &Board<'s>, mut team: Vec<Worker<'s>>) -> Result<(Pass, Share<'s>), AllocError>
     requires some { 0 < vec_len team }
-    requires done { All (IsDone board.now) team.items }
+    requires done { All (MayMerge board.now) team.items }
     ensures worker { IfOk result (λ r. IsWorker board.entry.now r.0 r.1 × ((view r.0).done ≡ true)) }
     ensures weight { IfOk result (λ r. (view r.0).weight ≡ total_of weight_of team.entry.items) }
     ensures missed { IfOk result (λ r. (view r.0).missed ≡ total_of missed_of team.entry.items) }

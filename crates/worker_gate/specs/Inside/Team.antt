@@ -32,7 +32,7 @@ abbrev pub AllEnded : Board → List Worker → List Worker → Type 0
 AllEnded b xs ys = (i : ℕ) (d : Worker) → i < length xs → HasEnded b (slice_index_or xs i d) (slice_index_or ys i d)
 
 -- it can be merged with the others
-pub record IsDone (b : Board) (w : Worker) : Type 0 where
+pub record MayMerge (b : Board) (w : Worker) : Type 0 where
   pub still : IsReady b w
   pub done : w.failed ≡ false → (view w.pass).done ≡ true
 

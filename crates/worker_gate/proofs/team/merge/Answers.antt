@@ -3,7 +3,7 @@ use Rattle.std.proofs.Common.{◌≡◌, ◌∙◌, ◌++◌, ◌∷◌, [], Lis
 use Rattle.std.proofs.lemmas.List.Elements.{All-pop, All-push}
 use Rattle.lift_core.specs.Times.{total_of}
 use Rattle.norm_board.proofs.Lists.{total-snoc}
-use Rattle.worker_gate.specs.Inside.Team.{IsEmpty, IsDone, IsFine, weight_of, missed_of}
+use Rattle.worker_gate.specs.Inside.Team.{IsEmpty, MayMerge, IsFine, weight_of, missed_of}
 use Rattle.worker_gate.proofs.team.merge.Goals as goal
 
 both_empty : (a b : List ℕ) → a ≡ [] → b ≡ [] → a ++ b ≡ []
@@ -12,7 +12,7 @@ both_empty a b e f = λ i. e i ++ f i
 pub loop-worker-init : goal.loop-worker-init
 loop-worker-init c =
     let e : c.args.team.items ≡ c.pop.new.self.items ++ c.in-Some.first ∷ [] = c.in-Some.ensures.items in
-    let d = All-pop (IsDone c.args.board.now) c.args.team.items c.pop.new.self.items (Some c.in-Some.first) e c.requires.done in
+    let d = All-pop (MayMerge c.args.board.now) c.args.team.items c.pop.new.self.items (Some c.in-Some.first) e c.requires.done in
     let w = total-snoc weight_of c.pop.new.self.items c.in-Some.first in
     let m = total-snoc missed_of c.pop.new.self.items c.in-Some.first in
     let tw = ap (total_of weight_of) e in
@@ -30,12 +30,12 @@ loop-worker-init c =
 pub take_in-requires-clause-worker : goal.take_in-requires-clause-worker
 take_in-requires-clause-worker c =
     let e : c.loop-worker.team.items ≡ c.pop-in-loop-worker.new.self.items ++ c.in-Some-pop.worker ∷ [] = c.in-Some-pop.ensures.items in
-    (All-pop (IsDone c.args.board.now) c.loop-worker.team.items c.pop-in-loop-worker.new.self.items (Some c.in-Some-pop.worker) e c.loop-worker.invariant.rest).1.still
+    (All-pop (MayMerge c.args.board.now) c.loop-worker.team.items c.pop-in-loop-worker.new.self.items (Some c.in-Some-pop.worker) e c.loop-worker.invariant.rest).1.still
 
 pub take_in-requires-clause-done : goal.take_in-requires-clause-done
 take_in-requires-clause-done c =
     let e : c.loop-worker.team.items ≡ c.pop-in-loop-worker.new.self.items ++ c.in-Some-pop.worker ∷ [] = c.in-Some-pop.ensures.items in
-    let d = All-pop (IsDone c.args.board.now) c.loop-worker.team.items c.pop-in-loop-worker.new.self.items (Some c.in-Some-pop.worker) e c.loop-worker.invariant.rest in
+    let d = All-pop (MayMerge c.args.board.now) c.loop-worker.team.items c.pop-in-loop-worker.new.self.items (Some c.in-Some-pop.worker) e c.loop-worker.invariant.rest in
     (c.loop-worker.invariant.done, d.1.done c.if-worker.false)
 
 pub loop-worker-preserved : goal.loop-worker-preserved
@@ -43,7 +43,7 @@ loop-worker-preserved c =
     let v = c.loop-worker.invariant in
     let k = c.in_ok-take_in.ensures in
     let e : c.loop-worker.team.items ≡ c.pop-in-loop-worker.new.self.items ++ c.in-Some-pop.worker ∷ [] = c.in-Some-pop.ensures.items in
-    let d = All-pop (IsDone c.args.board.now) c.loop-worker.team.items c.pop-in-loop-worker.new.self.items (Some c.in-Some-pop.worker) e v.rest in
+    let d = All-pop (MayMerge c.args.board.now) c.loop-worker.team.items c.pop-in-loop-worker.new.self.items (Some c.in-Some-pop.worker) e v.rest in
     let w = total-snoc weight_of c.pop-in-loop-worker.new.self.items c.in-Some-pop.worker in
     let m = total-snoc missed_of c.pop-in-loop-worker.new.self.items c.in-Some-pop.worker in
     let tw = ap (total_of weight_of) e in
