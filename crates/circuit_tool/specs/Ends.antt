@@ -113,14 +113,19 @@ Told circuits old new (Err (Shape rows cols)) = ⊥
 Told circuits old new (Err (NotKernel row)) = ⊥
 
 -- the matrix is written and told, or both were cut
-abbrev pub Cut : List ℕ → Matrix → Option Files → Option Files → Option (List ℕ) → Option (List ℕ) → Type 0
+abbrev pub Cut : List ℕ → Matrix → Option Files → Option Files → Option (List ℕ) → Option (List ℕ)
+    → Type 0
 Cut project grid old new out out' =
     (MayWrite (project ++ codes ".cir") (text_of grid) old new × (out' ≡ out))
-    ⊎ ((new ≡ option_map (written (project ++ codes ".cir") (text_of grid)) old) × MayPut (summary_of grid.rows) out out')
+    ⊎ ((new ≡ option_map (written (project ++ codes ".cir") (text_of grid)) old)
+    × MayPut (summary_of grid.rows) out out')
 
-abbrev pub Published : List ℕ → Matrix → Option Files → Option Files → Option (List ℕ) → Option (List ℕ) → Result ℕ Stop → Type 0
+abbrev pub Published : List ℕ → Matrix → Option Files → Option Files → Option (List ℕ)
+    → Option (List ℕ) → Result ℕ Stop → Type 0
 Published project grid old new out out' (Ok n) =
-    (n ≡ grid.rows) × (new ≡ option_map (written (project ++ codes ".cir") (text_of grid)) old) × (out' ≡ append_known out (summary_of n))
+    (n ≡ grid.rows)
+    × (new ≡ option_map (written (project ++ codes ".cir") (text_of grid)) old)
+    × (out' ≡ append_known out (summary_of n))
 Published project grid old new out out' (Err Outside) = Cut project grid old new out out'
 Published project grid old new out out' (Err Memory) = Cut project grid old new out out'
 Published project grid old new out out' (Err Usage) = ⊥
@@ -131,29 +136,38 @@ Published project grid old new out out' (Err (NotKernel row)) = ⊥
 -- what the run of a matrix and a set comes to
 abbrev pub EndsWith : List ℕ → Sets → Traces → Result ℕ Stop → Type 0
 EndsWith project sets t (Ok circuits) = IsDone project sets t circuits
-EndsWith project sets t (Err (NotKernel row)) = FirstOutside (rows_in sets.mat) (rows_in sets.set) (Some row) × IsUntouched t
+EndsWith project sets t (Err (NotKernel row)) =
+    FirstOutside (rows_in sets.mat) (rows_in sets.set) (Some row) × IsUntouched t
 EndsWith project sets t (Err Outside) = MayLeave project sets t
 EndsWith project sets t (Err Memory) = MayLeave project sets t
 EndsWith project sets t (Err Usage) = ⊥
 EndsWith project sets t (Err (File f fault)) = ⊥
 EndsWith project sets t (Err (Shape rows cols)) = ⊥
 
--- the end is the one that the words and the files decide, and this is what stands then; a device's fault and running out of memory come by themselves
+-- the end is the one that the words and the files decide, and this is what stands then; a device's
+-- fault and running out of memory come by themselves
 abbrev pub Ends : Result Plan Stop → Traces → Result ℕ Stop → Type 0
 Ends plan t (Ok circuits) = (p : Plan) × (plan ≡ Ok p) × IsDone p.project p.sets t circuits
-Ends plan t (Err (NotKernel row)) = (p : Plan) × (plan ≡ Ok p) × FirstOutside (rows_in p.sets.mat) (rows_in p.sets.set) (Some row) × IsUntouched t
+Ends plan t (Err (NotKernel row)) =
+    (p : Plan)
+    × (plan ≡ Ok p)
+    × FirstOutside (rows_in p.sets.mat) (rows_in p.sets.set) (Some row)
+    × IsUntouched t
 Ends plan t (Err Usage) = (plan ≡ Err Usage) × IsUntouched t
 Ends plan t (Err (File f fault)) = (plan ≡ Err (File f fault)) × IsUntouched t
 Ends plan t (Err (Shape rows cols)) = (plan ≡ Err (Shape rows cols)) × IsUntouched t
-Ends plan t (Err Outside) = IsUntouched t ⊎ ((p : Plan) × (plan ≡ Ok p) × IsCutShort p.project p.sets t)
-Ends plan t (Err Memory) = IsUntouched t ⊎ ((p : Plan) × (plan ≡ Ok p) × IsCutShort p.project p.sets t)
+Ends plan t (Err Outside) =
+    IsUntouched t ⊎ ((p : Plan) × (plan ≡ Ok p) × IsCutShort p.project p.sets t)
+Ends plan t (Err Memory) =
+    IsUntouched t ⊎ ((p : Plan) × (plan ≡ Ok p) × IsCutShort p.project p.sets t)
 
 -- the counts have not fallen, and a device's fault is answered only where one of them rose
 pub record HasCause {T : Type 0} (before now : ℕ) (result : Result T Stop) : Type 0 where
   pub later : before ≤ now
   pub failed : result ≡ Err Outside → Rose before now
 
-pub record HasCauses (files_before files_now out_before out_now : ℕ) (result : Result ℕ Stop) : Type 0 where
+pub record HasCauses (files_before files_now out_before out_now : ℕ) (result : Result ℕ Stop)
+    : Type 0 where
   pub files_later : files_before ≤ files_now
   pub out_later : out_before ≤ out_now
   pub failed : result ≡ Err Outside → Rose files_before files_now ⊎ Rose out_before out_now

@@ -40,11 +40,14 @@ placed f (Err file.Memory) = Err Memory
 
 -- the matrix in the project's file
 abbrev pub matrix_in : List ℕ → CirFile → Files → Result Matrix Stop
-matrix_in project f files = at f (grid_in (limits_of f).bytes (limits_of f).rows (limits_of f).cols (get files (project ++ ending f)))
+matrix_in project f files =
+    at f (grid_in (limits_of f).bytes (limits_of f).rows (limits_of f).cols
+    (get files (project ++ ending f)))
 
 -- the matrix and the set have equally many columns
 abbrev pub fitting : Matrix → Matrix → Result Sets Stop
-fitting mat set = if set.cols == mat.cols then Ok (record { mat = mat; set = set }) else Err (Shape set.rows set.cols)
+fitting mat set = if set.cols == mat.cols then Ok (record { mat = mat; set = set })
+    else Err (Shape set.rows set.cols)
 
 abbrev pub sets_in : List ℕ → Files → Result Sets Stop
 sets_in project files = do
@@ -68,7 +71,8 @@ planned words files = do
   sets ← sets_in project files
   Ok (record { project = project; sets = sets })
 
--- the step's answer is the expected one; a device's fault and running out of memory come by themselves
+-- the step's answer is the expected one; a device's fault and running out of memory come by
+-- themselves
 abbrev pub FailsAs : {A : Type 0} → Stop → Result A Stop → Type 0
 FailsAs Usage expected = expected ≡ Err Usage
 FailsAs (File f fault) expected = expected ≡ Err (File f fault)

@@ -97,7 +97,9 @@ Says project (Err stop) old new = MayPut (message_of project stop) old new
 -- ---- what is written and told
 -- the summary on standard output
 abbrev pub summary_of : Reached → List ℕ
-summary_of reached = text_of_parts (codes "cost " ∷ signed_decimal reached.cost ∷ codes ", " ∷ decimal reached.steps ∷ codes " steps\n" ∷ [])
+summary_of reached =
+    text_of_parts (codes "cost " ∷ signed_decimal reached.cost ∷ codes ", "
+    ∷ decimal reached.steps ∷ codes " steps\n" ∷ [])
 
 -- the file of the last point, and that of the steps
 abbrev pub output_of : ℕ → List ℤ → List Step → List OutputFile
@@ -109,15 +111,17 @@ output_of n point steps =
 abbrev pub AreInKernel : Problem → Type 0
 AreInKernel p = FirstOutside (rows_in p.mat) (rows_in p.set) None
 
--- these are at most so many steps, which lead from the start to a point at which no candidate helps, and each lowers the cost;
--- where the set is the Graver basis of the matrix, no feasible point has a lower cost
+-- these are at most so many steps, which lead from the start to a point at which no candidate
+-- helps, and each lowers the cost; where the set is the Graver basis of the matrix, no feasible
+-- point has a lower cost
 pub record IsClimb (p : Problem) (budget : ℕ) (steps : List Step) (point : List ℤ) : Type 0 where
   pub kernel : AreInKernel p
   pub path : IsPath p.upper.cells p.cost.cells (rows_in p.set) p.start.cells steps point
   pub few : length steps ≤ budget
   pub stuck : NoneHelps p.upper.cells p.cost.cells point (candidates (rows_in p.set))
   pub falls : IsFalling p.cost.cells p.start.cells steps
-  pub optimal : IsGraverBasis p.mat (rows_in p.set) → IsOptimalFrom (rows_in p.mat) p.upper.cells p.cost.cells p.start.cells point
+  pub optimal : IsGraverBasis p.mat (rows_in p.set)
+      → IsOptimalFrom (rows_in p.mat) p.upper.cells p.cost.cells p.start.cells point
 
 -- as many steps as may be taken lead from the start to a point at which a candidate still helps
 pub record IsSpent (p : Problem) (budget done : ℕ) : Type 0 where
@@ -135,7 +139,8 @@ abbrev pub reached_at : Problem → List Step → List ℤ → Reached
 reached_at p steps point = record { cost = dot p.cost.cells point; steps = length steps }
 
 -- the last point and the steps are written, and the cost and the number of steps are told
-pub record IsDone (project : List ℕ) (p : Problem) (budget : ℕ) (t : Traces) (reached : Reached) : Type 0 where
+pub record IsDone (project : List ℕ) (p : Problem) (budget : ℕ) (t : Traces) (reached : Reached)
+    : Type 0 where
   pub steps : List Step
   pub point : List ℤ
   pub climb : IsClimb p budget steps point
@@ -155,7 +160,8 @@ MayLeave project p budget t = IsUntouched t ⊎ IsCutShort project p budget t
 -- what the run of a problem comes to
 abbrev pub EndsWith : List ℕ → Problem → ℕ → Traces → Result Reached Stop → Type 0
 EndsWith project p budget t (Ok reached) = IsDone project p budget t reached
-EndsWith project p budget t (Err (NotKernel row)) = FirstOutside (rows_in p.mat) (rows_in p.set) (Some row) × IsUntouched t
+EndsWith project p budget t (Err (NotKernel row)) =
+    FirstOutside (rows_in p.mat) (rows_in p.set) (Some row) × IsUntouched t
 EndsWith project p budget t (Err (Steps done)) = IsSpent p budget done × IsUntouched t
 EndsWith project p budget t (Err Outside) = MayLeave project p budget t
 EndsWith project p budget t (Err Memory) = MayLeave project p budget t
@@ -166,28 +172,40 @@ EndsWith project p budget t (Err (CostRange j)) = ⊥
 EndsWith project p budget t (Err (UpperRange j)) = ⊥
 EndsWith project p budget t (Err (Infeasible j)) = ⊥
 
--- the end is the one that the words and the files decide, and this is what stands then; a device's fault and running out of memory come by themselves
+-- the end is the one that the words and the files decide, and this is what stands then; a device's
+-- fault and running out of memory come by themselves
 abbrev pub Ends : Result Plan Stop → Traces → Result Reached Stop → Type 0
-Ends plan t (Ok reached) = (p : Plan) × (plan ≡ Ok p) × IsDone p.project p.problem p.budget t reached
-Ends plan t (Err (NotKernel row)) = (p : Plan) × (plan ≡ Ok p) × FirstOutside (rows_in p.problem.mat) (rows_in p.problem.set) (Some row) × IsUntouched t
-Ends plan t (Err (Steps done)) = (p : Plan) × (plan ≡ Ok p) × IsSpent p.problem p.budget done × IsUntouched t
+Ends plan t (Ok reached) =
+    (p : Plan) × (plan ≡ Ok p) × IsDone p.project p.problem p.budget t reached
+Ends plan t (Err (NotKernel row)) =
+    (p : Plan)
+    × (plan ≡ Ok p)
+    × FirstOutside (rows_in p.problem.mat) (rows_in p.problem.set) (Some row)
+    × IsUntouched t
+Ends plan t (Err (Steps done)) =
+    (p : Plan) × (plan ≡ Ok p) × IsSpent p.problem p.budget done × IsUntouched t
 Ends plan t (Err Usage) = (plan ≡ Err Usage) × IsUntouched t
 Ends plan t (Err (File f fault)) = (plan ≡ Err (File f fault)) × IsUntouched t
 Ends plan t (Err (Shape f rows cols)) = (plan ≡ Err (Shape f rows cols)) × IsUntouched t
 Ends plan t (Err (CostRange j)) = (plan ≡ Err (CostRange j)) × IsUntouched t
 Ends plan t (Err (UpperRange j)) = (plan ≡ Err (UpperRange j)) × IsUntouched t
 Ends plan t (Err (Infeasible j)) = (plan ≡ Err (Infeasible j)) × IsUntouched t
-Ends plan t (Err Outside) = IsUntouched t ⊎ ((p : Plan) × (plan ≡ Ok p) × IsCutShort p.project p.problem p.budget t)
-Ends plan t (Err Memory) = IsUntouched t ⊎ ((p : Plan) × (plan ≡ Ok p) × IsCutShort p.project p.problem p.budget t)
+Ends plan t (Err Outside) =
+    IsUntouched t ⊎ ((p : Plan) × (plan ≡ Ok p) × IsCutShort p.project p.problem p.budget t)
+Ends plan t (Err Memory) =
+    IsUntouched t ⊎ ((p : Plan) × (plan ≡ Ok p) × IsCutShort p.project p.problem p.budget t)
 
 -- ---- answers
 -- the files of these matrices
 abbrev pub grid_files : Matrix → Matrix → List OutputFile
-grid_files opt steps = record { ending = codes ".opt"; text = text_of opt } ∷ record { ending = codes ".steps"; text = text_of steps } ∷ []
+grid_files opt steps =
+    record { ending = codes ".opt"; text = text_of opt }
+    ∷ record { ending = codes ".steps"; text = text_of steps } ∷ []
 
 abbrev pub both_written : List ℕ → Matrix → Matrix → Option Files → Option Files
 both_written project opt steps old =
-    option_map (written (project ++ codes ".steps") (text_of steps)) (option_map (written (project ++ codes ".opt") (text_of opt)) old)
+    option_map (written (project ++ codes ".steps") (text_of steps))
+    (option_map (written (project ++ codes ".opt") (text_of opt)) old)
 
 -- the summary was put, or a prefix of it
 abbrev pub Told : Reached → Option (List ℕ) → Option (List ℕ) → Result Reached Stop → Type 0
@@ -204,16 +222,22 @@ Told reached old new (Err (NotKernel row)) = ⊥
 Told reached old new (Err (Steps done)) = ⊥
 
 -- both are written and told, or one of these was cut
-abbrev pub Cut : List ℕ → Matrix → Matrix → Reached → Option Files → Option Files → Option (List ℕ) → Option (List ℕ) → Type 0
+abbrev pub Cut : List ℕ → Matrix → Matrix → Reached → Option Files → Option Files → Option (List ℕ)
+    → Option (List ℕ) → Type 0
 Cut project opt steps reached old new out out' =
     (IsCut project (grid_files opt steps) old new × (out' ≡ out))
     ⊎ ((new ≡ both_written project opt steps old) × MayPut (summary_of reached) out out')
 
-abbrev pub Published : List ℕ → Matrix → Matrix → Reached → Option Files → Option Files → Option (List ℕ) → Option (List ℕ) → Result Reached Stop → Type 0
+abbrev pub Published : List ℕ → Matrix → Matrix → Reached → Option Files → Option Files
+    → Option (List ℕ) → Option (List ℕ) → Result Reached Stop → Type 0
 Published project opt steps reached old new out out' (Ok r) =
-    (r ≡ reached) × (new ≡ both_written project opt steps old) × (out' ≡ append_known out (summary_of reached))
-Published project opt steps reached old new out out' (Err Outside) = Cut project opt steps reached old new out out'
-Published project opt steps reached old new out out' (Err Memory) = Cut project opt steps reached old new out out'
+    (r ≡ reached)
+    × (new ≡ both_written project opt steps old)
+    × (out' ≡ append_known out (summary_of reached))
+Published project opt steps reached old new out out' (Err Outside) =
+    Cut project opt steps reached old new out out'
+Published project opt steps reached old new out out' (Err Memory) =
+    Cut project opt steps reached old new out out'
 Published project opt steps reached old new out out' (Err Usage) = ⊥
 Published project opt steps reached old new out out' (Err (File f fault)) = ⊥
 Published project opt steps reached old new out out' (Err (Shape f rows cols)) = ⊥
@@ -228,7 +252,8 @@ pub record HasCause {T : Type 0} (before now : ℕ) (result : Result T Stop) : T
   pub later : before ≤ now
   pub failed : result ≡ Err Outside → Rose before now
 
-pub record HasCauses (files_before files_now out_before out_now : ℕ) (result : Result Reached Stop) : Type 0 where
+pub record HasCauses (files_before files_now out_before out_now : ℕ) (result : Result Reached Stop)
+    : Type 0 where
   pub files_later : files_before ≤ files_now
   pub out_later : out_before ≤ out_now
   pub failed : result ≡ Err Outside → Rose files_before files_now ⊎ Rose out_before out_now

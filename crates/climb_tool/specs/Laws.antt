@@ -15,5 +15,9 @@ CostFalls =
 -- where no vector of the Graver basis helps, nor its negative, the point is optimal
 abbrev pub StuckIsOptimal : Type 0
 StuckIsOptimal =
-    (mat : Matrix) (set : List (List ℤ)) (upper cost x : List ℤ) → IsGraverBasis mat set → length upper ≡ mat.cols
-    → IsWithinBounds upper x → NoneHelps upper cost x (candidates set) → IsOptimal (rows_in mat) upper cost x
+    (mat : Matrix) (set : List (List ℤ)) (upper cost x : List ℤ)
+    → IsGraverBasis mat set
+    → length upper ≡ mat.cols
+    → IsWithinBounds upper x
+    → NoneHelps upper cost x (candidates set)
+    → IsOptimal (rows_in mat) upper cost x

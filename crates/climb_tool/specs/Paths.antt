@@ -27,7 +27,8 @@ abbrev pub NoneHelps : List ℤ → List ℤ → List ℤ → List (List ℤ) �
 NoneHelps upper cost x vectors = AllByRecursion (λ g. Helps upper cost x g → ⊥) vectors
 
 -- g is the first that helps at x
-pub record IsFirstToHelp (upper cost x : List ℤ) (vectors : List (List ℤ)) (g : List ℤ) : Type 0 where
+pub record IsFirstToHelp (upper cost x : List ℤ) (vectors : List (List ℤ)) (g : List ℤ)
+    : Type 0 where
   pub before : List (List ℤ)
   pub after : List (List ℤ)
   pub place : vectors ≡ before ++ (g ∷ after)
@@ -64,19 +65,27 @@ pub record IsStep (upper cost : List ℤ) (set : List (List ℤ)) (x : List ℤ)
 -- these steps, one after another, lead from x to y
 abbrev pub IsPath : List ℤ → List ℤ → List (List ℤ) → List ℤ → List Step → List ℤ → Type 0
 IsPath upper cost set x [] y = x ≡ y
-IsPath upper cost set x (s ∷ steps) y = IsStep upper cost set x s × IsPath upper cost set (after_step x s) steps y
+IsPath upper cost set x (s ∷ steps) y =
+    IsStep upper cost set x s × IsPath upper cost set (after_step x s) steps y
 
 -- each of these steps from x lowers the cost
 abbrev pub IsFalling : List ℤ → List ℤ → List Step → Type 0
 IsFalling cost x [] = Unit {0}
-IsFalling cost x (s ∷ steps) = (dot cost (after_step x s) <ℤ dot cost x) × IsFalling cost (after_step x s) steps
+IsFalling cost x (s ∷ steps) =
+    (dot cost (after_step x s) <ℤ dot cost x) × IsFalling cost (after_step x s) steps
 
 -- no whole vector within the bounds, with the same products with the rows, has a lower cost
 abbrev pub IsOptimal : List (List ℤ) → List ℤ → List ℤ → List ℤ → Type 0
-IsOptimal rows upper cost x = (y : List ℤ) → IsWithinBounds upper y → AllByRecursion (λ r. dot r y ≡ dot r x) rows → dot cost x ≤ℤ dot cost y
+IsOptimal rows upper cost x =
+    (y : List ℤ)
+    → IsWithinBounds upper y
+    → AllByRecursion (λ r. dot r y ≡ dot r x) rows
+    → dot cost x ≤ℤ dot cost y
 
--- y is within the bounds and has the products of x with the rows, and no other such vector has a lower cost
+-- y is within the bounds and has the products of x with the rows, and no other such vector has a
+-- lower cost
 pub record IsOptimalFrom (rows : List (List ℤ)) (upper cost x y : List ℤ) : Type 0 where
   pub within : IsWithinBounds upper y
   pub same : AllByRecursion (λ r. dot r y ≡ dot r x) rows
-  pub least : (z : List ℤ) → IsWithinBounds upper z → AllByRecursion (λ r. dot r z ≡ dot r x) rows → dot cost y ≤ℤ dot cost z
+  pub least : (z : List ℤ) → IsWithinBounds upper z → AllByRecursion (λ r. dot r z ≡ dot r x) rows
+      → dot cost y ≤ℤ dot cost z

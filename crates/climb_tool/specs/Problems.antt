@@ -42,7 +42,9 @@ placed f (Err file.Memory) = Err Memory
 
 -- the matrix in the project's file
 abbrev pub matrix_in : List ℕ → ClimbFile → Files → Result Matrix Stop
-matrix_in project f files = at f (grid_in (limits_of f).bytes (limits_of f).rows (limits_of f).cols (get files (project ++ ending f)))
+matrix_in project f files =
+    at f (grid_in (limits_of f).bytes (limits_of f).rows (limits_of f).cols
+    (get files (project ++ ending f)))
 
 -- the five files in their order
 abbrev pub files_in : List ℕ → Files → Result Problem Stop
@@ -156,7 +158,8 @@ planned words files = do
   problem ← problem_in command.project files
   Ok (record { project = command.project; budget = command.budget; problem = problem })
 
--- the step's answer is the expected one; a device's fault and running out of memory come by themselves
+-- the step's answer is the expected one; a device's fault and running out of memory come by
+-- themselves
 abbrev pub FailsAs : {A : Type 0} → Stop → Result A Stop → Type 0
 FailsAs Usage expected = expected ≡ Err Usage
 FailsAs (File f fault) expected = expected ≡ Err (File f fault)

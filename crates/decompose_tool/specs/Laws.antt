@@ -9,11 +9,17 @@ use Rattle.decompose_tool.specs.Walks.{Term, IsWalk, multiples, vectors, AreDiff
 
 -- the multiples and what is left add up to where the walk began
 abbrev pub WalksAddUp : Type 0
-WalksAddUp = (us : List (List ℤ)) (v : List ℤ) (terms : List Term) (left : List ℤ) → IsWalk us v terms left → add (total (length v) (multiples terms)) left ≡ v
+WalksAddUp =
+    (us : List (List ℤ)) (v : List ℤ) (terms : List Term) (left : List ℤ)
+    → IsWalk us v terms left
+    → add (total (length v) (multiples terms)) left ≡ v
 
 -- each vector is below that
 abbrev pub TermsAreBelow : Type 0
-TermsAreBelow = (us : List (List ℤ)) (v : List ℤ) (terms : List Term) (left : List ℤ) → IsWalk us v terms left → AllByRecursion (λ u. u ⊑ v) (vectors terms)
+TermsAreBelow =
+    (us : List (List ℤ)) (v : List ℤ) (terms : List Term) (left : List ℤ)
+    → IsWalk us v terms left
+    → AllByRecursion (λ u. u ⊑ v) (vectors terms)
 
 -- and no two are the same
 abbrev pub TermsDiffer : Type 0
@@ -37,8 +43,8 @@ WalksAreOne =
     → IsWalk us v terms' left'
     → (terms ≡ terms') × (left ≡ left')
 
--- where the candidates are full vectors of the user's solutions, and those of all minimal ones are among them, the walk
--- from the full vector of a solution leaves nothing
+-- where the candidates are full vectors of the user's solutions, and those of all minimal ones are
+-- among them, the walk from the full vector of a solution leaves nothing
 abbrev pub NothingIsLeft : Type 0
 NothingIsLeft =
     (U : UserSystem) (c : ℤ) (x : List ℤ) (us : List (List ℤ)) (terms : List Term) (left : List ℤ)

@@ -117,7 +117,8 @@ planned words files = do
   sets ← sets_in asked.tool input.mat.cols asked.project files
   Ok (record { project = asked.project; tool = asked.tool; input = input; sets = sets })
 
--- the step's answer is the expected one; a device's fault and running out of memory come by themselves
+-- the step's answer is the expected one; a device's fault and running out of memory come by
+-- themselves
 abbrev pub FailsAs : {A : Type 0} → Stop → Result A Stop → Type 0
 FailsAs Usage expected = expected ≡ Err Usage
 FailsAs (BadInput fault) expected = expected ≡ Err (BadInput fault)

@@ -18,7 +18,8 @@ pub record Term : Type 0 where
   pub count : ℕ
   pub vector : List ℤ
 
--- a walk over the candidates from a rest: its terms, and what is left; a candidate that does not fit once is passed over
+-- a walk over the candidates from a rest: its terms, and what is left; a candidate that does not
+-- fit once is passed over
 abbrev pub IsWalk : List (List ℤ) → List ℤ → List Term → List ℤ → Type 0
 IsWalk [] rest terms left = (terms ≡ []) × (rest ≡ left)
 IsWalk (u ∷ us) rest terms left =

@@ -14,9 +14,11 @@ pub record OutputFile : Type 0 where
 -- the project's files after each of these was written anew, in order
 abbrev pub written_all : List ℕ → List OutputFile → Files → Files
 written_all project [] files = files
-written_all project (f ∷ fs) files = written_all project fs (written (project ++ f.ending) f.text files)
+written_all project (f ∷ fs) files =
+    written_all project fs (written (project ++ f.ending) f.text files)
 
--- one of the files is as before, empty or has a prefix of its text, those before it are whole, and those after it are as before
+-- one of the files is as before, empty or has a prefix of its text, those before it are whole, and
+-- those after it are as before
 abbrev pub IsCut : List ℕ → List OutputFile → Option Files → Option Files → Type 0
 IsCut project [] old new = ⊥
 IsCut project (f ∷ fs) old new =
@@ -36,7 +38,8 @@ pub record IsUntouched (t : Traces) : Type 0 where
   pub out : t.out_after ≡ t.out_before
 
 -- all is written, and told
-pub record IsWhole (project : List ℕ) (outputs : List OutputFile) (summary : List ℕ) (t : Traces) : Type 0 where
+pub record IsWhole (project : List ℕ) (outputs : List OutputFile) (summary : List ℕ) (t : Traces)
+    : Type 0 where
   pub files : t.files_after ≡ Some (written_all project outputs t.files_before)
   pub out : t.out_after ≡ append_known t.out_before summary
 
@@ -46,9 +49,11 @@ pub record IsCutInFiles (project : List ℕ) (outputs : List OutputFile) (t : Tr
   pub out : t.out_after ≡ t.out_before
 
 -- all files are whole, and a prefix of the summary was put
-pub record IsCutInSummary (project : List ℕ) (outputs : List OutputFile) (summary : List ℕ) (t : Traces) : Type 0 where
+pub record IsCutInSummary (project : List ℕ) (outputs : List OutputFile) (summary : List ℕ)
+    (t : Traces) : Type 0 where
   pub files : t.files_after ≡ Some (written_all project outputs t.files_before)
   pub out : MayPut summary t.out_before t.out_after
 
 abbrev pub IsPartly : List ℕ → List OutputFile → List ℕ → Traces → Type 0
-IsPartly project outputs summary t = IsCutInFiles project outputs t ⊎ IsCutInSummary project outputs summary t
+IsPartly project outputs summary t =
+    IsCutInFiles project outputs t ⊎ IsCutInSummary project outputs summary t

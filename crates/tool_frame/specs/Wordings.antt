@@ -37,8 +37,10 @@ text_fault_text limits (NotCap at) = with_number (codes "byte ") at (codes ": no
 text_fault_text limits (OutOfRange at) = with_number (codes "byte ") at (codes ": out of range")
 text_fault_text limits (Early at) = with_number (codes "byte ") at (codes ": more expected")
 text_fault_text limits (Extra at) = with_number (codes "byte ") at (codes ": nothing more expected")
-text_fault_text limits (TooManyRows found) = with_numbers [] found (codes " rows, at most ") limits.rows []
-text_fault_text limits (TooManyCols found) = with_numbers [] found (codes " columns, at most ") limits.cols []
+text_fault_text limits (TooManyRows found) =
+    with_numbers [] found (codes " rows, at most ") limits.rows []
+text_fault_text limits (TooManyCols found) =
+    with_numbers [] found (codes " columns, at most ") limits.cols []
 text_fault_text limits NoCols = plain (codes "no columns")
 
 -- and of a file
@@ -56,7 +58,9 @@ line_of program parts = text_of_parts (program ∷ codes ": " ∷ (parts ++ (cod
 
 -- of a project's file
 abbrev pub file_line : List ℕ → List ℕ → List ℕ → List (List ℕ) → List ℕ
-file_line program project ending parts = text_of_parts (program ∷ codes ": " ∷ project ∷ ending ∷ codes ": " ∷ (parts ++ (codes "\n" ∷ [])))
+file_line program project ending parts =
+    text_of_parts (program ∷ codes ": " ∷ project ∷ ending ∷ codes ": "
+    ∷ (parts ++ (codes "\n" ∷ [])))
 
 -- the line of a text, of the project's file where there is one
 abbrev pub message_in : List ℕ → List ℕ → Option (List ℕ) → List (List ℕ) → List ℕ

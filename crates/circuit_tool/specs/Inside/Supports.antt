@@ -30,7 +30,8 @@ words_in (r ∷ rows) = if word_of r == 0 then words_in rows else word_of r ∷ 
 -- the kept words, and of these words, one after another, those in which no kept one lies
 abbrev pub least_from : List ℕ → List ℕ → List ℕ
 least_from kept [] = kept
-least_from kept (w ∷ words) = least_from (if list_any (λ k. is_within k w) kept then kept else kept ++ w ∷ []) words
+least_from kept (w ∷ words) =
+    least_from (if list_any (λ k. is_within k w) kept then kept else kept ++ w ∷ []) words
 
 -- some of the words: in each word one of them lies
 pub record AreLeast (words kept : List ℕ) : Type 0 where
@@ -39,4 +40,5 @@ pub record AreLeast (words kept : List ℕ) : Type 0 where
 
 -- whether a row is not zero, and none of the words is strictly within its own
 abbrev pub is_kept : List ℕ → List ℤ → Bool
-is_kept least v = not (word_of v == 0) && not (list_any (λ k. is_strictly_within k (word_of v)) least)
+is_kept least v =
+    not (word_of v == 0) && not (list_any (λ k. is_strictly_within k (word_of v)) least)

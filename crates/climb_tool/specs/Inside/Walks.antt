@@ -31,12 +31,19 @@ abbrev pub NoneHelpsAt : Problem → List ℤ → Type 0
 NoneHelpsAt p x = NoneHelps p.upper.cells p.cost.cells x (candidates (rows_in p.set))
 
 abbrev pub OneHelpsAt : Problem → List ℤ → Type 0
-OneHelpsAt p x = (g : List ℤ) × IsFirstToHelp p.upper.cells p.cost.cells x (candidates (rows_in p.set)) g
+OneHelpsAt p x =
+    (g : List ℤ) × IsFirstToHelp p.upper.cells p.cost.cells x (candidates (rows_in p.set)) g
 
 -- what a walk of at most so many steps comes to
 abbrev pub Climbed : Problem → ℕ → Result Path Stop → Type 0
-Climbed p budget (Ok path) = IsWalked p path × NoneHelpsAt p path.point.items × (path.count ≤ budget)
-Climbed p budget (Err (Steps done)) = (path : Path) × IsWalked p path × OneHelpsAt p path.point.items × (path.count ≡ budget) × (done ≡ budget)
+Climbed p budget (Ok path) =
+    IsWalked p path × NoneHelpsAt p path.point.items × (path.count ≤ budget)
+Climbed p budget (Err (Steps done)) =
+    (path : Path)
+    × IsWalked p path
+    × OneHelpsAt p path.point.items
+    × (path.count ≡ budget)
+    × (done ≡ budget)
 Climbed p budget (Err Memory) = Unit {0}
 Climbed p budget (Err Usage) = ⊥
 Climbed p budget (Err (File f fault)) = ⊥
@@ -48,7 +55,8 @@ Climbed p budget (Err (NotKernel row)) = ⊥
 Climbed p budget (Err Outside) = ⊥
 
 -- the matrices of the last point and of the steps of a walk, and what is told
-pub record IsLaidOut (p : Problem) (path : Path) (opt steps : Matrix) (reached : Reached) : Type 0 where
+pub record IsLaidOut (p : Problem) (path : Path) (opt steps : Matrix) (reached : Reached)
+    : Type 0 where
   pub taken : List Step
   pub walk : IsWalk p taken path
   pub opt_is : opt ≡ grid_of p.mat.cols (path.point.items ∷ [])
