@@ -46,7 +46,8 @@ matrix_in project f files =
 
 -- the matrix and the set have equally many columns
 abbrev pub fitting : Matrix → Matrix → Result Sets Stop
-fitting mat set = if set.cols == mat.cols then Ok (record { mat = mat; set = set })
+fitting mat set =
+    if set.cols == mat.cols then Ok (record { mat = mat; set = set })
     else Err (Shape set.rows set.cols)
 
 abbrev pub sets_in : List ℕ → Files → Result Sets Stop

@@ -20,7 +20,9 @@ up_to most (Some n) = if nat_le n most then Some n else None
 
 -- the number behind `--steps=`: one or more digits, leading zeros too
 abbrev pub budget_in : List ℕ → Option ℕ
-budget_in word = if pointwise (λ a b. a == b) (take 8 word) (codes "--steps=") then up_to most_steps (digits_value (drop 8 word)) else None
+budget_in word =
+    if pointwise (λ a b. a == b) (take 8 word) (codes "--steps=")
+    then up_to most_steps (digits_value (drop 8 word)) else None
 
 -- the command of a budget and a project's name
 abbrev pub named : Option ℕ → List ℕ → Option Command
