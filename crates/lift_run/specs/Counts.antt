@@ -12,7 +12,8 @@ abbrev pub closed_norms :
 closed_norms S limits (walk_norm_overflow next large) = 0
 closed_norms S limits (walk_pairs_spent next small over) = 0
 closed_norms S limits (walk_rows_spent grown next small fits g over) = 0
-closed_norms S limits (walk_closing grown next small fits g room rest) = closed_norms S limits rest + 1
+closed_norms S limits (walk_closing grown next small fits g room rest) =
+    closed_norms S limits rest + 1
 closed_norms S limits (walk_row_overflow none more found) = 0
 closed_norms S limits (walk_next_stage none more found rest) = closed_norms S limits rest
 closed_norms S limits (walk_finish none last) = 0
@@ -25,9 +26,11 @@ abbrev pub later_waiting :
 later_waiting S limits (walk_norm_overflow next large) = 0
 later_waiting S limits (walk_pairs_spent next small over) = 0
 later_waiting S limits (walk_rows_spent grown next small fits g over) = 0
-later_waiting S limits (walk_closing grown next small fits g room rest) = later_waiting S limits rest
+later_waiting S limits (walk_closing grown next small fits g room rest) =
+    later_waiting S limits rest
 later_waiting S limits (walk_row_overflow none more found) = 0
-later_waiting S limits {k} {d} {used} {listed} (walk_next_stage none more found rest) = length (solutions_in listed) + later_waiting S limits rest
+later_waiting S limits {k} {d} {used} {listed} (walk_next_stage none more found rest) =
+    length (solutions_in listed) + later_waiting S limits rest
 later_waiting S limits (walk_finish none last) = 0
 
 -- a walk closes at most as many norms as its limit of pairs and the rows that wait in its stages

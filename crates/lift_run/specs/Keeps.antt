@@ -47,7 +47,8 @@ pub data Leads (limits : Bounds) : StageValue → List StageValue → StageValue
 
 -- the walk of the stage's lists comes to this end and closes no norm
 abbrev pub EndsHere : Bounds → StageValue → End → Type 0
-EndsHere limits s end = (walk : StageWalks limits s end) × (closed_norms s.system.equations limits walk ≡ 0)
+EndsHere limits s end =
+    (walk : StageWalks limits s end) × (closed_norms s.system.equations limits walk ≡ 0)
 
 -- ---- what a Keep was told. `after` is the state that follows a kept stage, and `torn` says which may follow a refused one
 -- the walk comes to this end, and the Keep was told of each norm that it closes, in order, each once
@@ -86,7 +87,8 @@ TellsTo after torn limits s named old new =
 abbrev pub TellsKeep :
     {X : Type 0} → (X → StageValue → X) → (X → StageValue → X → Type 0)
     → Bounds → Lifted → Result Finish RunEnd → Option X → Option X → Type 0
-TellsKeep after torn limits (Next s) answer old new = TellsTo after torn limits s (end_of answer) old new
+TellsKeep after torn limits (Next s) answer old new =
+    TellsTo after torn limits s (end_of answer) old new
 TellsKeep after torn limits (Last f) answer old new = new ≡ old
 
 -- the Keep's count has not fallen, and `Failed` is answered only where it rose

@@ -12,11 +12,13 @@ use Rattle.lift_run.specs.Runs.{end_of}
 use Rattle.lift_run.specs.Keeps.{Leads, EndsHere, TellsKeep}
 
 -- the places that are closed on the way to the end, each a stage and a norm, in order
-abbrev pub closed_places : (S : LinearSystem) (limits : Limits) {k d : ℕ} {end : End} → EndsIn S limits k d end → List (ℕ × ℕ)
+abbrev pub closed_places : (S : LinearSystem) (limits : Limits) {k d : ℕ} {end : End}
+    → EndsIn S limits k d end → List (ℕ × ℕ)
 closed_places S limits (by_norm_overflow at next large) = []
 closed_places S limits (by_pairs_spent at next small used over) = []
 closed_places S limits (by_rows_spent at after next small used fits listed over) = []
-closed_places S limits {k} (by_closing {e = e} at after next small used fits listed room rest) = (k, e) ∷ closed_places S limits rest
+closed_places S limits {k} (by_closing {e = e} at after next small used fits listed room rest) =
+    (k, e) ∷ closed_places S limits rest
 closed_places S limits (by_row_overflow at rows none more is found) = []
 closed_places S limits (by_next_stage at rows none more is found rest) = closed_places S limits rest
 closed_places S limits (by_finish at rows none last is used) = []

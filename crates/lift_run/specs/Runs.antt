@@ -32,7 +32,8 @@ end_of (Err e) = end_of_error e
 
 -- the walk of the stage's lists has this end
 abbrev pub StageWalks : Bounds → StageValue → End → Type 0
-StageWalks limits s end = WalkEnds s.system.equations limits s.number s.norm (used_of s) s.listed s.waiting end
+StageWalks limits s end =
+    WalkEnds s.system.equations limits s.number s.norm (used_of s) s.listed s.waiting end
 
 -- the answer is the end of the walk of the stage's lists; what is finished is handed back
 abbrev pub AnswersWalk : Bounds → Lifted → Result Finish RunEnd → Type 0
@@ -41,7 +42,8 @@ AnswersWalk limits (Last f) answer = answer ≡ Ok f
 
 -- the answer is the end that is reached from the stage's place; what is finished is handed back
 abbrev pub AnswersEnd : Bounds → Lifted → Result Finish RunEnd → Type 0
-AnswersEnd limits (Next s) answer = IfSome (end_of answer) (EndsIn s.system.equations limits s.number s.norm)
+AnswersEnd limits (Next s) answer =
+    IfSome (end_of answer) (EndsIn s.system.equations limits s.number s.norm)
 AnswersEnd limits (Last f) answer = answer ≡ Ok f
 
 -- the finish is of this system, and its rows are as wide

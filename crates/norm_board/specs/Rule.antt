@@ -73,7 +73,8 @@ pub record Away (homes : List (maybe.Option S)) (views : List View) : Type 0 whe
       → (x : ℕ) → times x v.found ≡ total_of (kept_of x) views
 
 -- the turn is 0 and the book at home, or 1 and the book out
-pub record Turned (p : Plan) (word : ℕ) (homes : List (maybe.Option S)) (views : List View) : Type 0 where
+pub record Turned (p : Plan) (word : ℕ) (homes : List (maybe.Option S)) (views : List View)
+    : Type 0 where
   pub bit : word < 2
   pub home : word ≡ 0 → Home p homes views
   pub away : word ≡ 1 → Away homes views
@@ -83,7 +84,8 @@ pub record Turned (p : Plan) (word : ℕ) (homes : List (maybe.Option S)) (views
 pub record Ruled (p : Plan) (s : State S View) : Type 0 where
   pub wide : length s.words ≡ 2
   pub fits : p.blocks + p.passes < 2 ^ 64
-  pub once : (x : ℕ) → total_of (drawn_of x) s.views ≡ once_below x (min (slice_index s.words 0) p.blocks)
+  pub once : (x : ℕ)
+      → total_of (drawn_of x) s.views ≡ once_below x (min (slice_index s.words 0) p.blocks)
   pub weights : total_of weight_of s.views ≡ p.passes
   pub room : slice_index s.words 0 + total_of open_weight s.views ≤ p.blocks + p.passes
   pub each : (i : ℕ) (v : View) → get_elem? s.views i ≡ some v → Fits p (slice_index s.words 0) v
@@ -150,4 +152,5 @@ pub record Finds (v : View) (b : BookValue) : Type 0 where
   pub kept : (x : ℕ) → times x v.kept ≤ times x b.blocks
   -- a pass with all the weight knows the whole
   pub whole : v.weight ≡ v.plan.passes → (x : ℕ) → times x b.blocks ≡ times x v.kept
-  pub all : v.weight ≡ v.plan.passes → v.done ≡ true → (x : ℕ) → times x v.drawn ≡ once_below x v.plan.blocks
+  pub all : v.weight ≡ v.plan.passes → v.done ≡ true → (x : ℕ)
+      → times x v.drawn ≡ once_below x v.plan.blocks

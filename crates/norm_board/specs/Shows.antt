@@ -73,14 +73,16 @@ LateDrawsShow =
 -- taking the turn shows the same state, and so does missing it
 abbrev pub TakesShow : Type 0
 TakesShow =
-    (p : Plan) (s : State S View) (c : CoreState) (id : ℕ) (me : Me S View) (b : BookValue) → Showing p s c id me.0
+    (p : Plan) (s : State S View) (c : CoreState) (id : ℕ) (me : Me S View) (b : BookValue)
+    → Showing p s c id me.0
     → Shows p (stepped s 1 1 id me.1 (taking me.0 b.blocks) (takes 0 (Some b))) c
     × Shows p (stepped s 1 1 id me.1 (missing me.0) keeps) c
 
 -- giving the turn back with all open blocks of a pass of weight 1 is a put of the machine
 abbrev pub GivesShow : Type 0
 GivesShow =
-    (p : Plan) (s : State S View) (c : CoreState) (id : ℕ) (v : View) (b : BookValue) → Showing p s c id v
+    (p : Plan) (s : State S View) (c : CoreState) (id : ℕ) (v : View) (b : BookValue)
+    → Showing p s c id v
     → v.weight ≡ 1 → MayGive v b.blocks → ((x : ℕ) → times x v.kept + times x (past v.found b.blocks) ≡ times x v.drawn)
     → (q : ℕ) × IsAllowed c (Put q)
     × Shows p (stepped s 1 0 id ((0, Some b) ∷ []) (giving v b.blocks) gives) (after_put c q)
@@ -88,7 +90,8 @@ GivesShow =
 -- giving it back with the book as it was shows the same state
 abbrev pub GivesBackShow : Type 0
 GivesBackShow =
-    (p : Plan) (s : State S View) (c : CoreState) (id : ℕ) (v : View) (b : BookValue) → Showing p s c id v
+    (p : Plan) (s : State S View) (c : CoreState) (id : ℕ) (v : View) (b : BookValue)
+    → Showing p s c id v
     → ((x : ℕ) → times x (past v.found b.blocks) ≡ 0)
     → Shows p (stepped s 1 0 id ((0, Some b) ∷ []) (giving v b.blocks) gives) c
 
@@ -96,13 +99,17 @@ GivesBackShow =
 -- cutting a pass that has drawn nothing shows the same state
 abbrev pub SplitsShow : Type 0
 SplitsShow =
-    (p : Plan) (s : State S View) (c : CoreState) (id : ℕ) (v : View) → Showing p s c id v → 2 ≤ v.weight → v.drawn ≡ []
+    (p : Plan) (s : State S View) (c : CoreState) (id : ℕ) (v : View)
+    → Showing p s c id v
+    → 2 ≤ v.weight
+    → v.drawn ≡ []
     → Shows p (record { words = s.words; homes = s.homes; views = slice_set s.views id (shrunk v) ++ single v ∷ [] }) c
 
 -- joining two passes shows the same state
 abbrev pub JoinsShow : Type 0
 JoinsShow =
-    (p : Plan) (s : State S View) (c : CoreState) (id : ℕ) (v : View) (other : ℕ) (w : View) → Showing p s c id v
+    (p : Plan) (s : State S View) (c : CoreState) (id : ℕ) (v : View) (other : ℕ) (w : View)
+    → Showing p s c id v
     → other ≢ id → get_elem? s.views other ≡ some w
     → Shows p (record { words = s.words; homes = s.homes; views = slice_set (slice_set s.views id (joined v w)) other spent_view }) c
 

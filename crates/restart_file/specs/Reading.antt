@@ -67,10 +67,12 @@ waiting_due zero = LastLine
 waiting_due (suc n) = WaitingRow (suc n)
 
 abbrev pub with_place : ℕ → ℕ → Progress → Progress
-with_place k d p = record { number = k; norm = d; used = p.used; listed = p.listed; waiting = p.waiting }
+with_place k d p =
+    record { number = k; norm = d; used = p.used; listed = p.listed; waiting = p.waiting }
 
 abbrev pub with_used : ℕ → Progress → Progress
-with_used u p = record { number = p.number; norm = p.norm; used = u; listed = p.listed; waiting = p.waiting }
+with_used u p =
+    record { number = p.number; norm = p.norm; used = u; listed = p.listed; waiting = p.waiting }
 
 abbrev pub with_listed : List ℤ → Progress → Progress
 with_listed z p = record { number = p.number; norm = p.norm; used = p.used; listed = p.listed ++ z ∷ []; waiting = p.waiting }

@@ -16,6 +16,7 @@ Restores S file (Err Failed) = ⊤
 Restores S file (Err Memory) = ⊤
 
 -- the count has not fallen, and `Failed` is answered only where it rose
-pub record HasRestartCause {T : Type 0} (before now : ℕ) (result : Result T RestartEnd) : Type 0 where
+pub record HasRestartCause {T : Type 0} (before now : ℕ) (result : Result T RestartEnd)
+    : Type 0 where
   pub later : before ≤ now
   pub failed : result ≡ Err Failed → Rose before now

@@ -65,15 +65,19 @@ progress_of s = record { number = s.number; norm = s.norm; used = used_of s; lis
 
 -- the lines of the system
 abbrev pub system_lines : Version → ToolSystem → List (List ℕ)
-system_lines First S = tool_line S.tool ∷ shape_line S ∷ signs_line S ∷ map row_line S.equations.rows
-system_lines Second S = tool_line S.tool ∷ shape_line S ∷ signs_line S ∷ caps_line S ∷ map row_line S.equations.rows
+system_lines First S =
+    tool_line S.tool ∷ shape_line S ∷ signs_line S ∷ map row_line S.equations.rows
+system_lines Second S =
+    tool_line S.tool ∷ shape_line S ∷ signs_line S ∷ caps_line S ∷ map row_line S.equations.rows
 
 abbrev pub has_zero_last : List ℤ → Bool
 has_zero_last z = int_eq (last z) (pos 0)
 
 -- how many rows have a last entry above 0, 0, and below 0
 abbrev pub class_counts : List (List ℤ) → List ℕ
-class_counts rows = count_by has_positive_last rows ∷ count_by has_zero_last rows ∷ count_by has_negative_last rows ∷ []
+class_counts rows =
+    count_by has_positive_last rows ∷ count_by has_zero_last rows ∷ count_by has_negative_last rows
+    ∷ []
 
 abbrev pub class_lines : Version → List (List ℤ) → List (List ℕ)
 class_lines First rows = []

@@ -12,12 +12,14 @@ use Rattle.solution_files.specs.Outputs.{kind_of, IsSelected, grid_of, text_of_r
 
 -- the finished rows are the minimal solutions of all equations
 abbrev pub AreAllSolutions : ToolSystem → List (List ℤ) → Type 0
-AreAllSolutions system finished = IsSolutionList system.equations (length system.equations.rows) finished
+AreAllSolutions system finished =
+    IsSolutionList system.equations (length system.equations.rows) finished
 
 -- for `hilbert` and `zsolve`, what is selected from all minimal solutions is the list that is wanted
 abbrev pub SelectedAreWanted : Type 0
 SelectedAreWanted =
-    (system : ToolSystem) (finished : List (List ℤ)) (kind : Kind) (rows : List (List ℤ)) → (system.tool ≡ Graver → ⊥)
+    (system : ToolSystem) (finished : List (List ℤ)) (kind : Kind) (rows : List (List ℤ))
+    → (system.tool ≡ Graver → ⊥)
     → AreAllSolutions system finished → IsSelected system finished kind rows → IsWanted system.equations system.n (kind_of kind) rows
 
 -- and for `graver`
@@ -28,4 +30,7 @@ SelectedAreWantedGraver =
 
 -- the text of the grid is the text of its rows
 abbrev pub GridsAreRows : Type 0
-GridsAreRows = (n : ℕ) (rows : List (List ℤ)) → AllByRecursion (λ row. length row ≡ n) rows → text_of (grid_of n rows) ≡ text_of_rows n rows
+GridsAreRows =
+    (n : ℕ) (rows : List (List ℤ))
+    → AllByRecursion (λ row. length row ≡ n) rows
+    → text_of (grid_of n rows) ≡ text_of_rows n rows

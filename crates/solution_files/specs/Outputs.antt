@@ -22,7 +22,8 @@ kind_of Hom = Homogeneous
 kind_of Inhom = Inhomogeneous
 
 -- x is the first n entries of a finished row of that kind
-pub record IsProjected (finished : List (List ℤ)) (n : ℕ) (kind : core.Kind) (x : List ℤ) : Type 0 where
+pub record IsProjected (finished : List (List ℤ)) (n : ℕ) (kind : core.Kind) (x : List ℤ)
+    : Type 0 where
   pub solution : List ℤ
   pub among : Contains finished solution
   pub home : HasX0 kind solution
@@ -30,13 +31,16 @@ pub record IsProjected (finished : List (List ℤ)) (n : ℕ) (kind : core.Kind)
 
 -- these are taken; for Graver sets, of a vector and its negative, where both are there, the one that leads positive
 abbrev pub IsTaken : Tool → List (List ℤ) → ℕ → core.Kind → List ℤ → Type 0
-IsTaken Graver finished n kind x = IsProjected finished n kind x × (IsProjected finished n kind (negated x) → IsTrue (leads_negative x) → ⊥)
+IsTaken Graver finished n kind x =
+    IsProjected finished n kind x
+    × (IsProjected finished n kind (negated x) → IsTrue (leads_negative x) → ⊥)
 IsTaken Hilbert finished n kind x = IsProjected finished n kind x
 IsTaken Zsolve finished n kind x = IsProjected finished n kind x
 
 -- the one list of the rows that are written, in lexicographic order
 abbrev pub IsSelected : ToolSystem → List (List ℤ) → Kind → List (List ℤ) → Type 0
-IsSelected system finished kind rows = IsListOf lex_cmp (IsTaken system.tool finished system.n (kind_of kind)) rows
+IsSelected system finished kind rows =
+    IsListOf lex_cmp (IsTaken system.tool finished system.n (kind_of kind)) rows
 
 -- the grid of rows of n entries
 abbrev pub grid_of : ℕ → List (List ℤ) → Matrix

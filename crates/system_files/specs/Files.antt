@@ -25,7 +25,8 @@ said (Ok x) = Ok x
 said (Err fault) = Err (Text fault)
 
 -- what the text says by this reading, where there is one
-abbrev pub spelled : {C : Type 0} → (List ℕ → Result C TextFault) → Option (List ℕ) → Result (Option C) FileFault
+abbrev pub spelled : {C : Type 0} → (List ℕ → Result C TextFault) → Option (List ℕ)
+    → Result (Option C) FileFault
 spelled read None = Ok None
 spelled read (Some text) = said (read text) >>= (λ x. Ok (Some x))
 
@@ -40,7 +41,8 @@ optional_grid_in limit rows cols file = text_in limit file >>= spelled (matrix_o
 
 -- and the relations
 abbrev pub optional_relations_in : ℕ → ℕ → ℕ → Option (List ℕ) → Result (Option Relations) FileFault
-optional_relations_in limit rows cols file = text_in limit file >>= spelled (relation_table_of rows cols)
+optional_relations_in limit rows cols file =
+    text_in limit file >>= spelled (relation_table_of rows cols)
 
 -- and the caps
 abbrev pub optional_caps_in : ℕ → ℕ → ℕ → Option (List ℕ) → Result (Option CapTable) FileFault

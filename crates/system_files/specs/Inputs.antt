@@ -55,11 +55,13 @@ unless_fault None x = Ok x
 
 -- the matrices, which fit each other
 abbrev pub accepted_in : Tool → List ℕ → Files → Result Input InputFault
-accepted_in tool project files = input_in project files >>= (λ input. unless_fault (shape_fault tool input) input)
+accepted_in tool project files =
+    input_in project files >>= (λ input. unless_fault (shape_fault tool input) input)
 
 -- the linear system that stands for them
 abbrev pub system_in : Tool → List ℕ → Files → Result ToolSystem InputFault
-system_in tool project files = accepted_in tool project files >>= (λ input. Ok (tool_system tool input))
+system_in tool project files =
+    accepted_in tool project files >>= (λ input. Ok (tool_system tool input))
 
 -- the linear system of matrices without a fault of shape
 pub record IsShaped (tool : Tool) (input : Input) (system : ToolSystem) : Type 0 where

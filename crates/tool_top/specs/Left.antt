@@ -122,10 +122,12 @@ LeavesCut plan t part = IsUntouched t
 
 -- what stands at an end; running out of memory leaves what the fault of some part leaves
 abbrev pub Leaves : Result Plan End → Traces → End → Type 0
-Leaves plan t (Done solutions pairs norms) = IsOkAnd plan (λ p. IsConcluded p t solutions pairs norms)
+Leaves plan t (Done solutions pairs norms) =
+    IsOkAnd plan (λ p. IsConcluded p t solutions pairs norms)
 Leaves plan t (Overflow stage (Row v)) = IsOkAnd plan (λ p. IsStopped p t (row_overflow stage v))
 Leaves plan t (Overflow stage (Norm d)) = IsOkAnd plan (λ p. IsStopped p t (norm_overflow stage d))
-Leaves plan t (Pairs stage d needed) = IsOkAnd plan (λ p. IsStopped p t (pairs_spent stage d needed))
+Leaves plan t (Pairs stage d needed) =
+    IsOkAnd plan (λ p. IsStopped p t (pairs_spent stage d needed))
 Leaves plan t (Rows stage d count) = IsOkAnd plan (λ p. IsStopped p t (rows_spent stage d count))
 Leaves plan t (Outside part) = LeavesCut plan t part
 Leaves plan t Memory = (part : Part) × LeavesCut plan t part

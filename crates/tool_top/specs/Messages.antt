@@ -68,7 +68,8 @@ abbrev pub shape_fault_words : ShapeFault → List (List ℕ)
 shape_fault_words SignNeeded = codes "needed" ∷ []
 shape_fault_words (SignShape rows cols) = wrong_shape rows cols
 shape_fault_words (BadSign at value) = bad_sign at value
-shape_fault_words (Free at) = codes "column " ∷ decimal at ∷ codes ": free variables are not supported" ∷ []
+shape_fault_words (Free at) =
+    codes "column " ∷ decimal at ∷ codes ": free variables are not supported" ∷ []
 shape_fault_words (RelShape rows cols) = wrong_shape rows cols
 shape_fault_words RhsNotHere = codes "only for zsolve" ∷ []
 shape_fault_words (RhsShape rows cols) = wrong_shape rows cols
@@ -104,8 +105,10 @@ both_causes project first second =
 
 -- the solution with which a product leaves the range, or the norm that does
 abbrev pub overflow_words : ℕ → Place → List (List ℕ)
-overflow_words stage (Row v) = codes "overflow at equation " ∷ decimal stage ∷ codes ": solution" ∷ entries v
-overflow_words stage (Norm d) = codes "overflow at equation " ∷ decimal stage ∷ codes ": norm " ∷ decimal d ∷ []
+overflow_words stage (Row v) =
+    codes "overflow at equation " ∷ decimal stage ∷ codes ": solution" ∷ entries v
+overflow_words stage (Norm d) =
+    codes "overflow at equation " ∷ decimal stage ∷ codes ": norm " ∷ decimal d ∷ []
 
 -- what a line says behind the tool's name
 abbrev pub words_of : Tool → List ℕ → End → List (List ℕ)
@@ -118,9 +121,11 @@ words_of tool project (Refused part) = about project part (codes "not supported"
 words_of tool project (Shape fault) = about project (shape_part fault) (shape_fault_words fault)
 words_of tool project (BadRestart first second) = both_causes project first second
 words_of tool project (Overflow stage place) = overflow_words stage place
-words_of tool project (Pairs stage norm needed) = codes "pair budget spent at equation " ∷ decimal stage
+words_of tool project (Pairs stage norm needed) =
+    codes "pair budget spent at equation " ∷ decimal stage
     ∷ codes ", norm " ∷ decimal norm ∷ codes ": " ∷ decimal needed ∷ codes " pairs needed" ∷ []
-words_of tool project (Rows stage norm count) = codes "row budget spent at equation " ∷ decimal stage
+words_of tool project (Rows stage norm count) =
+    codes "row budget spent at equation " ∷ decimal stage
     ∷ codes ", norm " ∷ decimal norm ∷ codes ": " ∷ decimal count ∷ codes " rows needed" ∷ []
 words_of tool project (Outside part) = about project part (codes "device failure" ∷ [])
 words_of tool project Memory = codes "out of memory" ∷ []

@@ -95,7 +95,8 @@ answered (Err fault) = Err (answer_of fault)
 
 -- the matrix of the tables, without a look at any file; or what the project's files say
 abbrev pub input_in : Tool → Option ℕ → List ℕ → Files → Result Input InputFault
-input_in tool (Some k) project files = unless_fault (shape_fault tool (tables_input k)) (tables_input k)
+input_in tool (Some k) project files =
+    unless_fault (shape_fault tool (tables_input k)) (tables_input k)
 input_in tool None project files = accepted_in tool project files
 
 -- what the files answer to a job, or its plan

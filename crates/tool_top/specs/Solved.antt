@@ -18,7 +18,8 @@ abbrev pub IsHeld : List ℕ → Files → OutputFile → Type 0
 IsHeld project files f = get files (file_name project f.part) ≡ Some f.text
 
 -- the project's output files hold exactly the wanted rows of the user's own system
-pub record HoldsSolutions (tool : Tool) (project : List ℕ) (input : Input) (files : Files) : Type 0 where
+pub record HoldsSolutions (tool : Tool) (project : List ℕ) (input : Input) (files : Files)
+    : Type 0 where
   pub outputs : List OutputFile
   pub wanted : AreOutputsOf tool (user_system tool input) input.mat.cols outputs
   pub held : AllByRecursion (IsHeld project files) outputs

@@ -19,7 +19,8 @@ AllowsNext limits s (Err end) = IfSome (end_of_error end) (EndsHere limits s)
 
 -- the norm is closed, or an end is met at the stage as it was
 abbrev pub ListsNorm : Bounds → ℕ → StageValue → StageValue → Result (Unit {0}) RunEnd → Type 0
-ListsNorm limits e old new (Ok u) = IsClosing limits old new × (new.norm ≡ e) × (IsDefined old → IsDefined new)
+ListsNorm limits e old new (Ok u) =
+    IsClosing limits old new × (new.norm ≡ e) × (IsDefined old → IsDefined new)
 ListsNorm limits e old new (Err end) = IfSome (end_of_error end) (EndsHere limits old)
 
 -- the run goes on from the new stage, and the Keep was told of each norm that was closed on the way
@@ -59,4 +60,5 @@ abbrev pub RunsFrom :
     {X : Type 0} → (X → StageValue → X) → (X → StageValue → X → Type 0)
     → Bounds → StageValue → Option X → Option X → Result Finish RunEnd → Type 0
 RunsFrom after torn limits first before now (Ok f) = IsFinished after limits first f before now
-RunsFrom after torn limits first before now (Err end) = TellsTo after torn limits first (end_of_error end) before now
+RunsFrom after torn limits first before now (Err end) =
+    TellsTo after torn limits first (end_of_error end) before now

@@ -14,7 +14,8 @@ use Rattle.norm_board.specs.declared.rule.Plan.{Plan}
 use Rattle.norm_board.specs.declared.rule.View.{View}
 
 -- where it has room, 256 rows and one run are free
-pub record BookOk (s : StageValue) (norm : ℕ) (blocks : RunsValue) (rows : PoolValue) (room : Bool) : Type 0 where
+pub record BookOk (s : StageValue) (norm : ℕ) (blocks : RunsValue) (rows : PoolValue) (room : Bool)
+    : Type 0 where
   pub small : norm ≤ 9223372036854775807
   pub sums : Sums s norm blocks.numbers rows.rows
   pub width_is : rows.width ≡ width s.system.equations + 1
@@ -46,7 +47,8 @@ pub record PassOk (weight : ℕ) (done holding : Bool) (me : Me S View) : Type 0
   pub found_is : holding ≡ false → me.0.found ≡ []
   pub kept : (x : ℕ) → times x me.0.kept ≤ times x me.0.drawn
 
-pub record BoardOk (key plan : Plan) (stage : StageValue) (table : TableId) (pairs : ℕ) : Type 0 where
+pub record BoardOk (key plan : Plan) (stage : StageValue) (table : TableId) (pairs : ℕ)
+    : Type 0 where
   pub plan_is : key ≡ plan
   pub few : plan.passes ≤ 32
   pub small : plan.norm ≤ 9223372036854775807

@@ -100,14 +100,16 @@ IsFound S k line z NoSolution = IsRow S line z × (IsStageRow S.equations k z �
 IsFound S k line z StageRow = IsRow S line z × IsStageRow S.equations k z
 
 -- the line is right and leads to the cursor, or it has the fault
-abbrev pub Steps : {T : Type 0} → ToolSystem → Version → Due → Progress → List ℕ → ℕ → Cursor → Result T RestartEnd → Type 0
+abbrev pub Steps : {T : Type 0} → ToolSystem → Version → Due → Progress → List ℕ → ℕ → Cursor
+    → Result T RestartEnd → Type 0
 Steps S v due p line l next (Ok t) = Follows S v due p line next
 Steps S v due p line l next (Err (Bad f)) = HasFault S v due p line l f
 Steps S v due p line l next (Err Failed) = ⊥
 Steps S v due p line l next (Err Memory) = ⊤
 
 -- the entries are those of a row of the stage in the line, or the line has the fault
-abbrev pub RowSteps : {T : Type 0} → ToolSystem → ℕ → List ℕ → ℕ → List ℤ → Result T RestartEnd → Type 0
+abbrev pub RowSteps : {T : Type 0} → ToolSystem → ℕ → List ℕ → ℕ → List ℤ → Result T RestartEnd
+    → Type 0
 RowSteps S k line l z (Ok t) = IsRow S line z × IsStageRow S.equations k z
 RowSteps S k line l z (Err (Bad f)) = HasNoStageRow S k line l f
 RowSteps S k line l z (Err Failed) = ⊥

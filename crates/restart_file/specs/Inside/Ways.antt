@@ -16,24 +16,28 @@ use Rattle.restart_file.specs.Inside.Windows.{IsLeft}
 
 -- what is read from a cursor on in line l is what was to be read
 abbrev pub LeadsTo : ToolSystem → Cursor → ℕ → List ℕ → Cursor → ℕ → List ℕ → Type 0
-LeadsTo S c l bytes next m rest = (out : Result Progress RestartFault) → Reads S next m rest out → Reads S c l bytes out
+LeadsTo S c l bytes next m rest =
+    (out : Result Progress RestartFault) → Reads S next m rest out → Reads S c l bytes out
 
 -- a line was read, and it is right
-pub record IsRead (S : ToolSystem) (text rest : List ℕ) (w : Window) (c next : Cursor) (l : ℕ) : Type 0 where
+pub record IsRead (S : ToolSystem) (text rest : List ℕ) (w : Window) (c next : Cursor) (l : ℕ)
+    : Type 0 where
   pub others : List ℕ
   pub left : IsLeft text w others
   pub fewer : length others < length rest
   pub leads : LeadsTo S c l rest next (l + 1) others
 
 -- a line was read, or it has the first fault
-abbrev pub ReadsLine : {T : Type 0} → ToolSystem → List ℕ → List ℕ → Window → Cursor → Cursor → ℕ → Result T RestartEnd → Type 0
+abbrev pub ReadsLine : {T : Type 0} → ToolSystem → List ℕ → List ℕ → Window → Cursor → Cursor → ℕ
+    → Result T RestartEnd → Type 0
 ReadsLine S text rest w c next l (Ok t) = IsRead S text rest w c next l
 ReadsLine S text rest w c next l (Err (Bad f)) = Reads S c l rest (Err f)
 ReadsLine S text rest w c next l (Err Failed) = ⊤
 ReadsLine S text rest w c next l (Err Memory) = ⊤
 
 -- after so many turns the lines before line l are read
-pub record IsOnTheWay (S : ToolSystem) (text : List ℕ) (w : Window) (c : Cursor) (l turns : ℕ) : Type 0 where
+pub record IsOnTheWay (S : ToolSystem) (text : List ℕ) (w : Window) (c : Cursor) (l turns : ℕ)
+    : Type 0 where
   pub rest : List ℕ
   pub left : IsLeft text w rest
   pub fewer : length rest + turns ≤ length text

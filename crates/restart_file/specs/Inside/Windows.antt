@@ -39,7 +39,8 @@ IsPlain bytes = AllByRecursion (λ b. b ≢ 10) bytes
 -- the line that was first, or none where no line was
 abbrev pub GivesLine : List ℕ → Window → List ℕ → List ℕ → Bool → Type 0
 GivesLine text w rest line false = HasNoLine rest
-GivesLine text w rest line true = IsLine line × ((others : List ℕ) × (rest ≡ line ++ others) × IsLeft text w others)
+GivesLine text w rest line true =
+    IsLine line × ((others : List ℕ) × (rest ≡ line ++ others) × IsLeft text w others)
 
 -- so many bytes of the text were hashed
 pub record IsHashed (text : List ℕ) (w : Window) (hasher : Sha256) (done : ℕ) : Type 0 where

@@ -76,9 +76,11 @@ pub record IsTold (job : Job) (outputs : List OutputFile) (used : ℕ) (old new 
 abbrev pub IsCutShort : Job → List OutputFile → ℕ → Option (List ℕ) → Option (List ℕ) → End → Type 0
 IsCutShort job outputs used old new (Outside part) =
     (part ≡ Out) × MayPut (summary_of job (rows_in outputs) used (norms_in outputs)) old new
-IsCutShort job outputs used old new Memory = MayPut (summary_of job (rows_in outputs) used (norms_in outputs)) old new
+IsCutShort job outputs used old new Memory =
+    MayPut (summary_of job (rows_in outputs) used (norms_in outputs)) old new
 IsCutShort job outputs used old new end = ⊥
 
-abbrev pub TellsOf : Job → List OutputFile → ℕ → Option (List ℕ) → Option (List ℕ) → Result Totals End → Type 0
+abbrev pub TellsOf : Job → List OutputFile → ℕ → Option (List ℕ) → Option (List ℕ)
+    → Result Totals End → Type 0
 TellsOf job outputs used old new (Ok totals) = IsTold job outputs used old new totals
 TellsOf job outputs used old new (Err end) = IsCutShort job outputs used old new end

@@ -29,7 +29,10 @@ pub record HasEnded (b : Board) (w x : Worker) : Type 0 where
 
 -- each worker of ys is what its thread left of the one of xs
 abbrev pub AllEnded : Board → List Worker → List Worker → Type 0
-AllEnded b xs ys = (i : ℕ) (d : Worker) → i < length xs → HasEnded b (slice_index_or xs i d) (slice_index_or ys i d)
+AllEnded b xs ys =
+    (i : ℕ) (d : Worker)
+    → i < length xs
+    → HasEnded b (slice_index_or xs i d) (slice_index_or ys i d)
 
 -- it can be merged with the others
 pub record MayMerge (b : Board) (w : Worker) : Type 0 where
