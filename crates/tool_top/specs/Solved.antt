@@ -1,4 +1,5 @@
 -- The theorem of a run from nothing: what the project's output files hold when it ends well.
+-- Which list stands in which file: `Outputs.antt`. What the lists are: `system_shape/specs/Problem.antt`.
 use Rattle.std.specs.Prelude.{◌≡◌, ℕ, List, false, Option, None, Some, IsOkAnd}
 use Rattle.std.specs.Option.{IsSomeAnd}
 use Rattle.std.specs.List.{AllByRecursion}
