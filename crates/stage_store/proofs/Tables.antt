@@ -218,7 +218,7 @@ on_ok_table S listed test i old new (Err x) l t h ids count sized groups = tt
 
 pub on_ok_groups : {E : Type 0} (S : LinearSystem) (listed : List (List ℤ)) (i norm : ℕ) (bars reached ids ids' : List ℕ) (groups groups' : List Group) (r : Result (Unit {0}) E)
     → OnOk r ((S : LinearSystem) (listed : List (List ℤ)) → AreGroups S listed ids groups → norm ≡ stage_norm (row_at listed i) → AreTrue (BarsLine S listed (row_at listed i)) true bars → AreTrue (ReachesLine (row_at listed i)) false reached
-        → AreGroups S listed ids' groups')
+    → AreGroups S listed ids' groups')
     → AreGroups S listed ids groups → norm ≡ stage_norm (row_at listed i) → AreTrue (BarsLine S listed (row_at listed i)) true bars → AreTrue (ReachesLine (row_at listed i)) false reached → OnOk r (AreGroups S listed ids' groups')
 on_ok_groups S listed i norm bars reached ids ids' groups groups' (Ok u) h before is above under = h S listed before is above under
 on_ok_groups S listed i norm bars reached ids ids' groups groups' (Err x) h before is above under = tt

@@ -45,7 +45,12 @@ impl Lines {
     }
 
     /// Takes in the places of lines in which row `q` is marked, for each item the one next to those in which it is not.
-    pub fn take_marked(&self, upper: bool, q: usize, places: &mut Vec<usize>) -> Result<(), AllocError>
+    pub fn take_marked(
+        &self,
+        upper: bool,
+        q: usize,
+        places: &mut Vec<usize>,
+    ) -> Result<(), AllocError>
         requires { q < 64 }
         ensures { OnOk result (AreMarked self.now q places.new.items) }
     {

@@ -3,28 +3,26 @@
 //! A pair is sifted once, when the later of its rows is listed: the new row meets lines of bits over all rows of the
 //! other sign, 64 at a time. What is left is kept on the shelf of its norm.
 
-ghost use Rattle.std.specs.Prelude.{◌≡◌, ◌+◌, ◌-◌, ◌*◌, ◌/◌, ◌%◌, ◌<◌, ◌≤◌, ◌^◌, ◌++◌, ◌∷◌, [], ℕ, ℤ, List, length, take, drop, true, false, Bool, slice_index_or, OnOk, OnErr, IfOk, IsTrue, All, pos, ◌↔◌};
+ghost use Rattle.std.specs.Prelude.{◌≡◌, ◌+◌, ◌-◌, ◌*◌, ◌/◌, ◌%◌, ◌<◌, ◌≤◌, ◌^◌, ◌++◌, ◌∷◌, [], ℕ, ℤ, List, length, take, drop, true, false, Bool, slice_index_or, OnOk, OnErr, IfOk, IsTrue};
 ghost use Rattle.std.specs.Int.{bit_at};
 ghost use Rattle.std.specs.List.{AllByRecursion, Contains};
 ghost use Rattle.lift_core.specs.Systems.{LinearSystem};
 ghost use Rattle.lift_core.specs.ToolSystems.{width};
-ghost use Rattle.row_pool.specs.Rows.{InRange};
 ghost use Rattle.stage_store.specs.Indexed.{HoldsRows};
 ghost use Rattle.lift_core.specs.Stages.{stage_norm, has_positive_last, has_negative_last};
 ghost use Rattle.stage_store.specs.Classes.{row_at, rows_at, places, sign_test};
 ghost use Rattle.stage_store.specs.Lines.{AreClear, AreInside};
 ghost use Rattle.stage_store.specs.Levels.{AreTrue, BarsLine, ReachesLine};
-ghost use Rattle.stage_store.specs.Reaches.{AreFarApart, AreReaches};
+ghost use Rattle.stage_store.specs.Reaches.{AreReaches};
 ghost use Rattle.stage_store.specs.Shelves.{IsKept, Stay};
-ghost use Rattle.stage_store.specs.Sieve.{HasNoNewSum, HasNoNewSumBy, IsSiftedBy, AreSiftedBy, AreSifted, IsGroup, AreGroups, IsSized, AreSized, IsDead, IsTable, IsSieveTo, IsSieve, IsNewSieve, IsRoom, AreAsked, AreReads, AreNormed, AreWide, pair_by};
+ghost use Rattle.stage_store.specs.Sieve.{HasNoNewSumBy, IsSiftedBy, AreSiftedBy, AreSifted, IsGroup, AreGroups, IsSized, AreSized, IsDead, IsTable, IsSieveTo, IsSieve, IsNewSieve, IsRoom, AreAsked, AreReads, AreNormed, AreWide, pair_by};
 
-use crate::growing::has_sign;
+use crate::growing::{has_sign, norm_of};
 use crate::left::Left;
 use crate::lines::{Lines, take_said};
 use crate::marks::{fill_bars, fill_reached};
-use crate::reach::reach_of;
+use crate::reach::{is_passed, reach_of};
 use crate::shelves::Shelves;
-use int_vector::norm;
 use lift_core::System;
 use reduce_tree::Tree;
 use row_pool::{Pool, RowId};
@@ -84,19 +82,6 @@ pub struct Sieve {
     shelves: Shelves,
 }
 
-/// The norm of a row with its last entry.
-#[tactic(auto, using(crate::proofs::Signs::front_laws))]
-pub fn norm_of(row: &[i64], width: usize) -> u64
-    requires width { length row.now ≡ width + 1 }
-    requires small { stage_norm row.now ≤ 9223372036854775807 }
-    ensures { result ≡ stage_norm row.now }
-{
-    match norm(&row[..width]) {
-        Some(n) => n,
-        None => unreachable!(),
-    }
-}
-
 /// The pair of a row and another, where the first one's last entry is above 0 or below it.
 fn pair_of(positive: bool, norm: u64, i: u32, j: u32) -> KeptPair
     ensures { result ≡ pair_by positive norm i j }
@@ -137,67 +122,6 @@ fn keep_rows(
     let one = norm_of(listed.row(RowId(i)), width);
     let two = norm_of(listed.row(RowId(j)), width);
     shelves.keep(pair_of(positive, one + two, i, j))
-}
-
-/// Whether a value is larger than another by a reach or more. A reach of 0 tells nothing.
-fn is_past(large: u64, small: u64, reach: u64) -> bool
-    requires { large ≤ 9223372036854775807 }
-    ensures { IsTrue result ↔ ((0 < reach) × (small + reach ≤ large)) }
-{
-    reach > 0 && large >= small && large - small >= reach
-}
-
-/// Whether the last entries of two rows, the first above 0 and the second below it, are so far apart that the sum has a
-/// listed row below it.
-fn is_far(first: &[i64], second: &[i64], width: usize, reach: u64, other_reach: u64) -> bool
-    requires first { length first.now ≡ width + 1 }
-    requires second { length second.now ≡ width + 1 }
-    requires first_range { All InRange first.now }
-    requires second_range { All InRange second.now }
-    ensures { IsTrue result → AreFarApart (slice_index_or first.now width (pos 0)) (slice_index_or second.now width (pos 0)) reach other_reach }
-{
-    let above = first[width];
-    let under = second[width];
-    if above <= 0 || under >= 0 {
-        return false;
-    }
-    let up = above.unsigned_abs();
-    let down = under.unsigned_abs();
-    is_past(down, up, reach) || is_past(up, down, other_reach)
-}
-
-/// Whether the pair of two places is known to have no irreducible sum, by the reaches of its rows.
-fn are_far(listed: &Pool, width: usize, reaches: &[u64], f: u32, g: u32) -> bool
-    requires width { listed.now.width ≡ width + 1 }
-    requires reaches { AreReaches listed.now.rows reaches.now }
-    requires count { length reaches.now ≤ length listed.now.rows }
-    requires one { f < length reaches.now }
-    requires two { g < length reaches.now }
-    ensures { (S : LinearSystem) → IsTrue result → HasNoNewSum S listed.now.rows f g }
-{
-    is_far(
-        listed.row(RowId(f)),
-        listed.row(RowId(g)),
-        width,
-        reaches[f as usize],
-        reaches[g as usize],
-    )
-}
-
-/// Whether the pair of a row and another is known to have no irreducible sum, by the reaches of the two.
-fn is_passed(listed: &Pool, width: usize, reaches: &[u64], positive: bool, i: u32, j: u32) -> bool
-    requires width { listed.now.width ≡ width + 1 }
-    requires reaches { AreReaches listed.now.rows reaches.now }
-    requires count { length reaches.now ≤ length listed.now.rows }
-    requires one { i < length reaches.now }
-    requires two { j < length reaches.now }
-    ensures { (S : LinearSystem) → IsTrue result → HasNoNewSumBy positive S listed.now.rows i j }
-{
-    if positive {
-        are_far(listed, width, reaches, i, j)
-    } else {
-        are_far(listed, width, reaches, j, i)
-    }
 }
 
 /// Sifts the pairs of a row with at most 64 others, each of which has a bit of `dead` that tells, where it is set,

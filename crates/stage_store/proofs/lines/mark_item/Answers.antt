@@ -1,4 +1,4 @@
-use Rattle.std.proofs.Common.{◌≡◌, ◌∙◌, ◌+◌, ◌*◌, ◌/◌, ◌%◌, ◌<◌, ℕ, List, length, get_or, ap, sym, subst, subst₂, arith}
+use Rattle.std.proofs.Common.{◌≡◌, ◌∙◌, ◌+◌, ◌*◌, ◌/◌, ◌%◌, ◌<◌, ℕ, length, get_or, ap, sym, subst, subst₂, arith}
 use Rattle.std.proofs.lemmas.List.{length-set}
 use Rattle.stage_store.specs.Lines.{IsSaid, IsSaidLevel, MarksRow}
 use Rattle.stage_store.proofs.LineBits.{mark_one}

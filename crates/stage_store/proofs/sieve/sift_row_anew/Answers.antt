@@ -14,8 +14,12 @@ use Rattle.stage_store.proofs.sieve.sift_row_anew.Goals as goal
 pub sift_row-requires-clause-row : goal.sift_row-requires-clause-row
 sift_row-requires-clause-row c =
     let e : c.index.result.now ≡ get_or c.args.plus.now.ids.items c.args.k 0 = c.index.ensures ∙ get_or_default c.args.plus.now.ids.items c.args.k c.index.result.now 0 c.requires.place in
-    omega (arith, e, each_at (λ j. j < length c.args.reaches.now) c.args.plus.now.ids.items c.args.k 0
-    (inside_table c.args.system.now.equations c.args.listed.now.rows has_positive_last (length c.args.reaches.now) c.args.plus.now c.requires.reach_count c.requires.plus) c.requires.place)
+    omega (
+      arith,
+      e,
+      each_at (λ j. j < length c.args.reaches.now) c.args.plus.now.ids.items c.args.k 0
+          (inside_table c.args.system.now.equations c.args.listed.now.rows has_positive_last (length c.args.reaches.now) c.args.plus.now c.requires.reach_count c.requires.plus) c.requires.place,
+    )
 
 pub sift_row-requires-clause-places : goal.sift_row-requires-clause-places
 sift_row-requires-clause-places c = inside_table c.args.system.now.equations c.args.listed.now.rows has_negative_last (length c.args.reaches.now) c.args.minus.now c.requires.reach_count c.requires.minus

@@ -1,4 +1,4 @@
-use Rattle.std.proofs.Common.{◌<◌, ℕ, length, slice_index_or, subst, arith, true}
+use Rattle.std.proofs.Common.{length, slice_index_or, arith, true}
 use borrow.Author.Count.{below_more}
 use Rattle.stage_store.specs.Sieve.{AreSiftedBy}
 use Rattle.stage_store.proofs.Sifting.{sifted_stays, stay_through, sifted_anew}

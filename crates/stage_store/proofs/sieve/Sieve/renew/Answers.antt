@@ -1,4 +1,4 @@
-use Rattle.std.proofs.Common.{◌≡◌, ℕ, List, length, ap, sym, subst, subst₂, refl, arith, ◌∙◌}
+use Rattle.std.proofs.Common.{ℕ, length, ap, sym, subst, refl, arith, ◌∙◌}
 use Rattle.std.specs.Prelude.{OnOk}
 use Rattle.lift_core.specs.Stages.{has_positive_last, has_negative_last}
 use Rattle.stage_store.specs.Reaches.{AreReaches}
