@@ -7,7 +7,7 @@ use Rattle.std.proofs.Common.{subst₂}
 use Rattle.std.proofs.lemmas.List.{get_or-set_same, get_or-set_other, get_or_append_left, get_or-append-add}
 use Rattle.std.proofs.lemmas.Nat.Bits.{bit_at_set_other, bit_at_or}
 use Rattle.stage_store.specs.Classes.{row_at}
-use Rattle.stage_store.specs.Lines.{IsSaid, IsSaidLevel, HasBit, AreClear, MarksRow, AreSaid, with_bit, Tell}
+use Rattle.stage_store.specs.Lines.{IsSaid, IsSaidLevel, IsMarkedAt, AreMarked, HasBit, AreClear, MarksRow, AreSaid, with_bit, Tell}
 
 pub mark_one : (upper : Bool) (levels : List ℕ) (q m : ℕ) (old lines : List ℕ) → m < length lines → q < 64 → IsSaid upper levels m → MarksRow upper levels q old lines → MarksRow upper levels q old (with_bit lines m q)
 mark_one upper levels q m old lines inside small said before = λ n r nl rl bit. elim (cases_eq n m) [
@@ -18,6 +18,12 @@ mark_one upper levels q m old lines inside small said before = λ n r nl rl bit.
         before n r nl rl (ap (λ k. bit_at (get_or lines k 0) r) here ∙ sym (bit_at_set_other w64 (get_or lines m 0) q small r other) ∙ sym (ap (λ k. bit_at k r) e) ∙ bit)
   ]
   | inr other ↦ before n r nl rl (sym (ap (λ k. bit_at k r) (get_or-set_other lines m n (bit_or (get_or lines m 0) (1 * 2 ^ q % 2 ^ 64)) 0 other)) ∙ bit)
+]
+
+pub marks_through : (upper : Bool) (levels : List ℕ) (q : ℕ) (old middle new : List ℕ) → length middle ≡ length old → MarksRow upper levels q old middle → MarksRow upper levels q middle new → MarksRow upper levels q old new
+marks_through upper levels q old middle new same first second = λ m r ml rl bit. elim (second m r (omega (arith, ml, same)) rl bit) [
+  | inl before ↦ first m r ml rl before
+  | inr here ↦ inr here
 ]
 
 pub bit_of_two : (x y : ℕ) → max x y ≡ 1 → (x ≡ 1) ⊎ (y ≡ 1)
@@ -73,3 +79,13 @@ module _ (P : List ℤ → ℕ → Type 0) (listed : List (List ℤ)) where
         let at : get_or (ids ++ (i ∷ [])) (64 * a + r) 0 ≡ i = ap (λ k. get_or (ids ++ (i ∷ [])) k 0) place ∙ get_or-append-add ids (i ∷ []) 0 0 in
         (omega (arith, place, length-append ids (i ∷ [])), subst (λ k. P (row_at listed k) m) (sym at) (said m (omega (arith, ml, same)) here.1))
   ]
+
+-- one place more of a line in which the row is marked
+pub marked_more : (lines : List ℕ) (r x : ℕ) (places new : List ℕ) → new ≡ places ++ (x ∷ []) → IsMarkedAt lines r x → AreMarked lines r places → AreMarked lines r new
+marked_more lines r x places new is here h = λ a l. elim (cases_lt a (length places)) [
+  | inl s ↦ subst (IsMarkedAt lines r) (sym (ap (λ xs. get_or xs a 0) is ∙ get_or_append_left places (x ∷ []) 0 a s)) (h a s)
+  | inr s ↦
+      let at : a ≡ length places + 0 = omega (arith, l, ap length is, length-append places (x ∷ []), s) in
+      let v : get_or new a 0 ≡ x = ap (λ xs. get_or xs a 0) is ∙ ap (λ m. get_or (places ++ (x ∷ [])) m 0) at ∙ get_or-append-add places (x ∷ []) 0 0 in
+      subst (IsMarkedAt lines r) (sym v) here
+]

@@ -84,6 +84,7 @@ table_stays S listed new test n t l h =
             reached = λ m r ml rl bit.
                 let x = g.reached m r ml rl bit in
                 (x.0, subst (λ (f : List ℤ). ReachesLine f m) (sym (same (64 * a + r) x.0)) x.1);
+            norms = λ r rl k'. subst (λ (f : List ℤ). ((get_or t.groups.items a d).least ≤ stage_norm f) × (stage_norm f ≤ (get_or t.groups.items a d).most)) (sym (same (64 * a + r) k')) (g.norms r rl k');
           };
     }
 

@@ -1,5 +1,5 @@
 -- The sieve: a pair that is kept stays kept, and a pair that is passed over has no irreducible sum.
-use Rattle.std.proofs.Common.{◌≡◌, ℕ, ◌+◌, ◌-◌, ◌*◌, ◌≤◌, ◌<◌, List, [], length, get_or, take, drop, ap, sym, ◌∙◌, subst, arith, inl, inr, refl, Bool, true, false}
+use Rattle.std.proofs.Common.{◌≡◌, ◌⊎◌, ℕ, ◌+◌, ◌-◌, ◌*◌, ◌/◌, ◌%◌, ◌≤◌, ◌<◌, List, [], length, get_or, take, drop, ap, sym, ◌∙◌, subst, arith, inl, inr, refl, Bool, true, false}
 use Rattle.std.proofs.Common.{min, length-drop, get_or-drop, get_or-take, subst₂}
 use Rattle.std.specs.Prelude.{ℤ}
 use Rattle.std.specs.Int.{bit_at}
@@ -8,16 +8,17 @@ use Rattle.std.proofs.lemmas.Bool.{cases_lt, cases_eq}
 use Rattle.std.proofs.lemmas.Int.{ints}
 use Rattle.std.proofs.lemmas.List.{length-take-le}
 use Rattle.lift_core.specs.Systems.{LinearSystem}
-use Rattle.lift_core.specs.Stages.{has_positive_last, has_negative_last}
+use Rattle.lift_core.specs.Stages.{stage_norm, has_positive_last, has_negative_last}
 use Rattle.stage_store.specs.declared.sieve.Group.{Group}
-use Rattle.stage_store.specs.declared.sieve.Room.{Room}
 use Rattle.lift_core.specs.ToolSystems.{width}
 use Rattle.stage_store.specs.Levels.{MakesNone}
 use Rattle.stage_store.specs.Classes.{row_at, places}
 use Rattle.stage_store.specs.declared.sieve.Sieve.{Sieve}
 use Rattle.stage_store.specs.declared.sieve.Table.{Table}
 use Rattle.stage_store.specs.declared.sieve.KeptPair.{KeptPair}
-use Rattle.stage_store.specs.Sieve.{AreSifted, IsTable, IsSieveTo, IsSieve, IsNewSieve, HasNoNewSumBy, IsSiftedBy, AreSiftedBy, AreWide, IsGroup, IsSized, IsDead, AreAsked, pair_by}
+use Rattle.stage_store.specs.Sieve.{AreSifted, IsTable, IsSieveTo, IsSieve, IsNewSieve, HasNoNewSumBy, IsSiftedBy, AreSiftedBy, AreWide, AreReads, AreBetween, IsGroup, IsSized, IsDead, pair_by}
+use Rattle.stage_store.specs.Lines.{Tell, AreMarked}
+use Rattle.stage_store.specs.Levels.{BarsLine, ReachesLine}
 use Rattle.stage_store.proofs.Tables.{has_place, no_table, table_less}
 use Rattle.std.specs.Prelude.{Result, Ok, Err, OnOk}
 use Rattle.stage_store.specs.Reaches.{AreReaches}
@@ -52,23 +53,65 @@ module _ (positive : Bool) (S : LinearSystem) (listed : List (List ℤ)) (i j : 
       by_sign false = λ z s. m.as_first z s
 
 -- what the lines of a group tell of its rows and of the one that they are read for
-pub group_has_none : (positive : Bool) (S : LinearSystem) (listed : List (List ℤ)) (i a bits : ℕ) (ids part : List ℕ) (g : Group) (r : Room) → AreWide (width S + 1) listed → i < length listed → AllByRecursion (λ j. j < length listed) ids
-    → IsSized (16 * width S) g → IsGroup S listed ids a g → AreAsked S listed (row_at listed i) r → IsDead g r.bar_reads.items r.reach_reads.items bits → length part ≤ 64 → ((k : ℕ) → k < length part → get_or part k 0 ≡ get_or ids (64 * a + k) 0)
+pub group_has_none : (positive : Bool) (S : LinearSystem) (listed : List (List ℤ)) (i a bits : ℕ) (ids part bar_reads reach_reads : List ℕ) (g : Group) → AreWide (width S + 1) listed → i < length listed → AllByRecursion (λ j. j < length listed) ids
+    → IsSized (16 * width S) g → IsGroup S listed ids a g → AreReads (ReachesLine (row_at listed i)) (16 * width S) bar_reads → AreReads (BarsLine S listed (row_at listed i)) (16 * width S) reach_reads
+    → IsDead g bar_reads reach_reads bits → length part ≤ 64 → ((k : ℕ) → k < length part → get_or part k 0 ≡ get_or ids (64 * a + k) 0)
     → (k : ℕ) → k < length part → bit_at bits k ≡ 1 → HasNoNewSumBy positive S listed i (get_or part k 0)
-group_has_none positive S listed i a bits ids part g r wide il inside sized group asked dead few at k l bit = elim (dead k (omega (arith, l, few)) bit) [
+group_has_none positive S listed i a bits ids part bar_reads reach_reads g wide il inside sized group reaches bars dead few at k l bit = elim (dead k (omega (arith, l, few)) bit) [
   | inl x ↦
-      let m : ℕ = get_or r.bar_reads.items x.0 0 in
-      let q = asked.bar_reads x.0 x.1 in
+      let m : ℕ = get_or bar_reads x.0 0 in
+      let q = reaches x.0 x.1 in
       let t = group.bars m k (omega (arith, q.0, sized.bars_count)) (omega (arith, l, few)) x.2 in
       let n : length (row_at listed i) ≡ length (row_at listed (get_or ids (64 * a + k) 0)) = each_at (λ z. length z ≡ width S + 1) listed i [] wide il ∙ sym (each_at (λ z. length z ≡ width S + 1) listed (get_or ids (64 * a + k) 0) [] wide (each_at (λ j. j < length listed) ids (64 * a + k) 0 inside t.0)) in
       subst (λ j. HasNoNewSumBy positive S listed i j) (sym (at k l)) (none_made_turned positive S listed i (get_or ids (64 * a + k) 0) (t.1 (row_at listed i) n q.1))
   | inr x ↦
-      let m : ℕ = get_or r.reach_reads.items x.0 0 in
-      let q = asked.reach_reads x.0 x.1 in
+      let m : ℕ = get_or reach_reads x.0 0 in
+      let q = bars x.0 x.1 in
       let t = group.reached m k (omega (arith, q.0, sized.reached_count)) (omega (arith, l, few)) x.2 in
       let n : length (row_at listed (get_or ids (64 * a + k) 0)) ≡ length (row_at listed i) = each_at (λ z. length z ≡ width S + 1) listed (get_or ids (64 * a + k) 0) [] wide (each_at (λ j. j < length listed) ids (64 * a + k) 0 inside t.0) ∙ sym (each_at (λ z. length z ≡ width S + 1) listed i [] wide il) in
       subst (λ j. HasNoNewSumBy positive S listed i j) (sym (at k l)) (none_made positive S listed i (get_or ids (64 * a + k) 0) (q.1 (row_at listed (get_or ids (64 * a + k) 0)) n t.1))
 ]
+
+-- ---- norms of which pairs are not kept
+not_kept : (positive : Bool) (v : Shelves) (n i j : ℕ) → (n ≤ v.closed) ⊎ (v.horizon ≤ n) → IsKept v (pair_by positive n i j)
+not_kept true v n i j out = λ low high. elim out [ inl l ↦ absurd (omega (arith, l, low)) | inr h ↦ absurd (omega (arith, h, high)) ]
+not_kept false v n i j out = λ low high. elim out [ inl l ↦ absurd (omega (arith, l, low)) | inr h ↦ absurd (omega (arith, h, high)) ]
+
+-- a group that is passed over
+pub group_out : (positive : Bool) (S : LinearSystem) (listed : List (List ℤ)) (v : Shelves) (i group least most norm : ℕ) (ids : List ℕ) → AreBetween listed ids group least most → norm ≡ stage_norm (row_at listed i)
+    → (norm + most ≤ v.closed) ⊎ (v.horizon ≤ norm + least) → ((k : ℕ) → k < 64 * group → k < length ids → IsSiftedBy positive S listed v i (get_or ids k 0))
+    → (k : ℕ) → k < 64 * (group + 1) → k < length ids → IsSiftedBy positive S listed v i (get_or ids k 0)
+group_out positive S listed v i group least most norm ids norms is out before k l inside = elim (cases_lt k (64 * group)) [
+  | inl s ↦ before k s inside
+  | inr s ↦
+      let at : 64 * group + (k - 64 * group) ≡ k = omega (arith, s) in
+      let t : (least ≤ stage_norm (row_at listed (get_or ids k 0))) × (stage_norm (row_at listed (get_or ids k 0)) ≤ most) =
+      subst (λ n. (least ≤ stage_norm (row_at listed (get_or ids n 0))) × (stage_norm (row_at listed (get_or ids n 0)) ≤ most)) at (norms (k - 64 * group) (omega (arith, l, s)) (omega (arith, inside, s))) in
+      let beyond : (stage_norm (row_at listed i) + stage_norm (row_at listed (get_or ids k 0)) ≤ v.closed) ⊎ (v.horizon ≤ stage_norm (row_at listed i) + stage_norm (row_at listed (get_or ids k 0))) =
+      elim out [ inl o ↦ inl (omega (arith, o, t.1, is)) | inr o ↦ inr (omega (arith, o, t.0, is)) ] in
+      inl (not_kept positive v (stage_norm (row_at listed i) + stage_norm (row_at listed (get_or ids k 0))) i (get_or ids k 0) beyond)
+]
+
+-- ---- the rows of two tables, sifted anew
+module _ (S : LinearSystem) (listed : List (List ℤ)) (n : ℕ) (within : n ≤ length listed) where
+  row_place : (test : List ℤ → Bool) (t : Table) (i : ℕ) → IsTable S listed test n t → i < n → test (row_at listed i) ≡ true → (k : ℕ) × (k < length t.ids.items) × (get_or t.ids.items k 0 ≡ 0 + i)
+  row_place test t i h l passes =
+      let same : get_or (take n listed) i [] ≡ row_at listed i = get_or-take n listed i [] l in
+      subst (λ (ids : List ℕ). (k : ℕ) × (k < length ids) × (get_or ids k 0 ≡ 0 + i)) (sym h.ids_are) (has_place test 0 (take n listed) i (omega (arith, length-take-le n listed within, l)) (ap test same ∙ passes))
+
+  pub sifted_anew : (plus minus : Table) (v : Shelves) → IsTable S listed has_positive_last n plus → IsTable S listed has_negative_last n minus
+      → ((k : ℕ) → k < length plus.ids.items → AreSiftedBy true S listed v (get_or plus.ids.items k 0) minus.ids.items) → AreSifted S listed n v
+  sifted_anew plus minus v p m all = λ i j il jl above under.
+      let a = row_place has_positive_last plus i p il above in
+      let b = row_place has_negative_last minus j m jl under in
+      subst₂ (λ (x y : ℕ). IsSiftedBy true S listed v x y) (a.2 ∙ omega arith) (b.2 ∙ omega arith) (all a.0 a.1 b.0 b.1)
+
+-- what a table tells of the row at a place
+pub marked_reads : (P : List ℤ → ℕ → Type 0) (listed : List (List ℤ)) (ids lines places : List ℕ) (k : ℕ) → Tell P listed ids (k / 64) lines → AreMarked lines (k % 64) places → AreReads (P (row_at listed (get_or ids k 0))) (length lines) places
+marked_reads P listed ids lines places k tell marked = λ a l.
+    let m = marked a l in
+    let at : 64 * (k / 64) + k % 64 ≡ k = omega arith in
+    (m.0, subst (λ j. P (row_at listed (get_or ids j 0)) (get_or places a 0)) at (tell (get_or places a 0) (k % 64) m.0 (omega arith) m.1).1)
 
 -- ---- one group more, one row more
 pub part_at : (n m k : ℕ) (ids : List ℕ) → k < n → get_or (take n (drop m ids)) k 0 ≡ get_or ids (m + k) 0
@@ -221,3 +264,20 @@ closed_sieve S listed d old v rows reaches plus minus shelves closed kept h = re
     sifted = λ i j il jl p m. elim (h.upto.sifted i j (omega (arith, il, rows)) (omega (arith, jl, rows)) p m) [ inl k ↦ inl (kept (pair_by true _ i j) k) | inr n ↦ inr n ];
   };
 }
+
+-- pairs that are sifted anew
+pub on_ok_renewed : {E : Type 0} (S : LinearSystem) (listed : List (List ℤ)) (d : ℕ) (old v : Sieve) (r : Result (Unit {0}) E) → v.rows ≡ old.rows → v.reaches ≡ old.reaches → v.plus ≡ old.plus → v.minus ≡ old.minus
+    → length v.shelves.shelves.items ≡ 256 → v.shelves.closed ≤ d → OnOk r (AreSifted S listed v.rows v.shelves) → IsSieve S listed d old → OnOk r (IsSieve S listed d v)
+on_ok_renewed S listed d old v (Ok u) rows reaches plus minus shelves closed sifted h = record {
+  within = omega (arith, rows, h.within);
+  upto = record {
+    plus_table = subst₂ (λ (n : ℕ) (t : Table). IsTable S listed has_positive_last n t) (sym rows) (sym plus) h.upto.plus_table;
+    minus_table = subst₂ (λ (n : ℕ) (t : Table). IsTable S listed has_negative_last n t) (sym rows) (sym minus) h.upto.minus_table;
+    shelves_are = shelves;
+    closed = closed;
+    reach_count = omega (arith, rows, ap (λ x. length x.items) reaches, h.upto.reach_count);
+    reaches_are = subst (λ x. AreReaches listed x.items) (sym reaches) h.upto.reaches_are;
+    sifted = sifted;
+  };
+}
+on_ok_renewed S listed d old v (Err x) rows reaches plus minus shelves closed sifted h = tt

@@ -9,7 +9,7 @@ use Rattle.stage_store.specs.Levels.{BarsLine, ReachesLine}
 use Rattle.stage_store.proofs.LineBits.{tell_stays, tell_marked}
 use Rattle.std.proofs.lemmas.List.{get_or-set_other, length-set}
 use Rattle.std.proofs.lemmas.Grind.{get_or-set_at}
-use Rattle.std.proofs.Common.{set}
+use Rattle.std.proofs.Common.{set, max}
 use Rattle.stage_store.specs.Lines.{MarksRow}
 use Rattle.stage_store.specs.Levels.{AreTrue}
 use Rattle.stage_store.specs.Classes.{row_at, places}
@@ -18,7 +18,8 @@ use Rattle.std.proofs.lemmas.List.{take-append-drop}
 use Rattle.lift_core.specs.Systems.{LinearSystem}
 use Rattle.lift_core.specs.ToolSystems.{width}
 use Rattle.stage_store.specs.declared.sieve.Table.{Table}
-use Rattle.stage_store.specs.Sieve.{IsGroup, AreGroups, IsSized, AreSized, IsTable}
+use Rattle.lift_core.specs.Stages.{stage_norm}
+use Rattle.stage_store.specs.Sieve.{AreBetween, IsGroup, AreGroups, IsSized, AreSized, IsTable}
 
 module _ (test : List ℤ → Bool) where
   pub places_append : (b : ℕ) (xs ys : List (List ℤ)) → places test b (xs ++ ys) ≡ places test b xs ++ places test (b + length xs) ys
@@ -138,6 +139,13 @@ groups_put S listed ids groups g h here = λ a d l. elim (cases_lt a (length gro
       subst₂ (λ (m : ℕ) (x : Group). IsGroup S listed ids m x) (omega (arith, at)) (sym e) here
 ]
 
+-- the group at a place
+pub group_at : (S : LinearSystem) (listed : List (List ℤ)) (ids : List ℕ) (groups : List Group) (a : ℕ) (g : Group) → AreGroups S listed ids groups → a < length groups → g ≡ get_or groups a g → IsGroup S listed ids a g
+group_at S listed ids groups a g h l e = subst (IsGroup S listed ids a) (sym e) (h a g l)
+
+pub sized_at : (n : ℕ) (groups : List Group) (a : ℕ) (g : Group) → AreSized n groups → a < length groups → g ≡ get_or groups a g → IsSized n g
+sized_at n groups a g h l e = subst (IsSized n) (sym e) (h a g l)
+
 pub sized_put : (n : ℕ) (groups : List Group) (g : Group) → AreSized n groups → IsSized n g → AreSized n (groups ++ (g ∷ []))
 sized_put n groups g h here = λ a d l. elim (cases_lt a (length groups)) [
   | inl s ↦ subst (IsSized n) (sym (get_or_append_left groups (g ∷ []) d a s)) (h a d s)
@@ -152,25 +160,50 @@ sized_set n groups b g h here = λ a d l. elim (cases_eq a b) [
   | inr s ↦ subst (IsSized n) (sym (get_or-set_other groups b a g d s)) (h a d (omega (arith, l, length-set groups b g)))
 ]
 
+-- the norms of a group
+pub between_nothing : (listed : List (List ℤ)) (ids : List ℕ) (a least most : ℕ) → length ids ≤ 64 * a → AreBetween listed ids a least most
+between_nothing listed ids a least most l = λ r rl inside. absurd (omega (arith, l, inside))
+
+pub between_stays : (listed : List (List ℤ)) (ids : List ℕ) (i a b q least most : ℕ) → length ids ≡ 64 * b + q → q < 64 → (a ≡ b → ⊥) → AreBetween listed ids a least most → AreBetween listed (ids ++ (i ∷ [])) a least most
+between_stays listed ids i a b q least most place small other h = λ r rl inside.
+    let l : 64 * a + r < length ids = omega (arith, inside, length-append ids (i ∷ []), place, small, rl, other) in
+    subst (λ n. (least ≤ stage_norm (row_at listed n)) × (stage_norm (row_at listed n) ≤ most)) (sym (get_or_append_left ids (i ∷ []) 0 (64 * a + r) l)) (h r rl l)
+
+pub between_more : (listed : List (List ℤ)) (ids : List ℕ) (i b q least most norm : ℕ) → length ids ≡ 64 * b + q → norm ≡ stage_norm (row_at listed i) → AreBetween listed ids b least most
+    → AreBetween listed (ids ++ (i ∷ [])) b (min least norm) (max most norm)
+between_more listed ids i b q least most norm place is h = λ r rl inside. elim (cases_lt (64 * b + r) (length ids)) [
+  | inl l ↦
+      let t = h r rl l in
+      subst (λ n. (min least norm ≤ stage_norm (row_at listed n)) × (stage_norm (row_at listed n) ≤ max most norm)) (sym (get_or_append_left ids (i ∷ []) 0 (64 * b + r) l)) (omega (arith, t.0), omega (arith, t.1))
+  | inr s ↦
+      let last : 64 * b + r ≡ length ids + 0 = omega (arith, inside, length-append ids (i ∷ []), s) in
+      let at : get_or (ids ++ (i ∷ [])) (64 * b + r) 0 ≡ i = ap (λ k. get_or (ids ++ (i ∷ [])) k 0) last ∙ get_or-append-add ids (i ∷ []) 0 0 in
+      subst (λ n. (min least norm ≤ stage_norm (row_at listed n)) × (stage_norm (row_at listed n) ≤ max most norm)) (sym at) (omega (arith, is), omega (arith, is))
+]
+
 -- the last group with one row more
-pub groups_set : (S : LinearSystem) (listed : List (List ℤ)) (ids : List ℕ) (i : ℕ) (groups : List Group) (b : ℕ) (g : Group) → AreGroups S listed ids groups → IsGroup S listed (ids ++ (i ∷ [])) b g → AreGroups S listed (ids ++ (i ∷ [])) (set groups b g)
-groups_set S listed ids i groups b g h here = λ a d l. elim (cases_eq a b) [
+pub groups_set : (S : LinearSystem) (listed : List (List ℤ)) (ids : List ℕ) (i : ℕ) (groups : List Group) (b q : ℕ) (g : Group) → length ids ≡ 64 * b + q → q < 64 → AreGroups S listed ids groups → IsGroup S listed (ids ++ (i ∷ [])) b g
+    → AreGroups S listed (ids ++ (i ∷ [])) (set groups b g)
+groups_set S listed ids i groups b q g place small h here = λ a d l. elim (cases_eq a b) [
   | inl s ↦ subst₂ (λ (m : ℕ) (x : Group). IsGroup S listed (ids ++ (i ∷ [])) m x) (sym s) (sym (get_or-set_at groups b a g d s (omega (arith, l, length-set groups b g, s)))) here
   | inr s ↦
       let r : IsGroup S listed ids a (get_or groups a d) = h a d (omega (arith, l, length-set groups b g)) in
       subst (IsGroup S listed (ids ++ (i ∷ [])) a) (sym (get_or-set_other groups b a g d s)) (record {
         bars = tell_stays (BarsLine S listed) listed ids i a (get_or groups a d).bars r.bars;
         reached = tell_stays ReachesLine listed ids i a (get_or groups a d).reached r.reached;
+        norms = between_stays listed ids i a b q (get_or groups a d).least (get_or groups a d).most place small s r.norms;
       })
 ]
 
 -- the last group with a row marked
-pub group_marked : (S : LinearSystem) (listed : List (List ℤ)) (ids : List ℕ) (i b q : ℕ) (bars reached bars' reached' : List ℕ) (g : Group) → length ids ≡ 64 * b + q → IsSized (8 * length bars) g → length bars ≡ length reached
-    → AreTrue (BarsLine S listed (row_at listed i)) true bars → AreTrue (ReachesLine (row_at listed i)) false reached → length bars' ≡ length g.bars → length reached' ≡ length g.reached
-    → MarksRow true bars q g.bars bars' → MarksRow false reached q g.reached reached' → IsGroup S listed ids b g → IsGroup S listed (ids ++ (i ∷ [])) b (record { bars = bars'; reached = reached' })
-group_marked S listed ids i b q bars reached bars' reached' g place sized same above under n m marks marks' h = record {
+pub group_marked : (S : LinearSystem) (listed : List (List ℤ)) (ids : List ℕ) (i b q norm : ℕ) (bars reached bars' reached' : List ℕ) (g : Group) → length ids ≡ 64 * b + q → IsSized (8 * length bars) g → length bars ≡ length reached
+    → norm ≡ stage_norm (row_at listed i) → AreTrue (BarsLine S listed (row_at listed i)) true bars → AreTrue (ReachesLine (row_at listed i)) false reached → length bars' ≡ length g.bars → length reached' ≡ length g.reached
+    → MarksRow true bars q g.bars bars' → MarksRow false reached q g.reached reached' → IsGroup S listed ids b g
+    → IsGroup S listed (ids ++ (i ∷ [])) b (record { bars = bars'; reached = reached'; least = min g.least norm; most = max g.most norm })
+group_marked S listed ids i b q norm bars reached bars' reached' g place sized same is above under n m marks marks' h = record {
   bars = tell_marked (BarsLine S listed) listed ids i b q true bars g.bars bars' place n marks (λ k l said. above k (omega (arith, l, sized.bars_count)) said) h.bars;
   reached = tell_marked ReachesLine listed ids i b q false reached g.reached reached' place m marks' (λ k l said. under k (omega (arith, l, sized.reached_count, same)) said) h.reached;
+  norms = between_more listed ids i b q g.least g.most norm place is h.norms;
 }
 
 pub each_less : (m n : ℕ) (ids : List ℕ) → m ≤ n → AllByRecursion (λ i. i < m) ids → AllByRecursion (λ i. i < n) ids
@@ -183,8 +216,9 @@ pub on_ok_table : {E : Type 0} (S : LinearSystem) (listed : List (List ℤ)) (te
 on_ok_table S listed test i old new (Ok u) l t h ids count sized groups = table_more S listed test i old new l t h ids count sized groups
 on_ok_table S listed test i old new (Err x) l t h ids count sized groups = tt
 
-pub on_ok_groups : {E : Type 0} (S : LinearSystem) (listed : List (List ℤ)) (i : ℕ) (bars reached ids ids' : List ℕ) (groups groups' : List Group) (r : Result (Unit {0}) E)
-    → OnOk r ((S : LinearSystem) (listed : List (List ℤ)) → AreGroups S listed ids groups → AreTrue (BarsLine S listed (row_at listed i)) true bars → AreTrue (ReachesLine (row_at listed i)) false reached → AreGroups S listed ids' groups')
-    → AreGroups S listed ids groups → AreTrue (BarsLine S listed (row_at listed i)) true bars → AreTrue (ReachesLine (row_at listed i)) false reached → OnOk r (AreGroups S listed ids' groups')
-on_ok_groups S listed i bars reached ids ids' groups groups' (Ok u) h before above under = h S listed before above under
-on_ok_groups S listed i bars reached ids ids' groups groups' (Err x) h before above under = tt
+pub on_ok_groups : {E : Type 0} (S : LinearSystem) (listed : List (List ℤ)) (i norm : ℕ) (bars reached ids ids' : List ℕ) (groups groups' : List Group) (r : Result (Unit {0}) E)
+    → OnOk r ((S : LinearSystem) (listed : List (List ℤ)) → AreGroups S listed ids groups → norm ≡ stage_norm (row_at listed i) → AreTrue (BarsLine S listed (row_at listed i)) true bars → AreTrue (ReachesLine (row_at listed i)) false reached
+    → AreGroups S listed ids' groups')
+    → AreGroups S listed ids groups → norm ≡ stage_norm (row_at listed i) → AreTrue (BarsLine S listed (row_at listed i)) true bars → AreTrue (ReachesLine (row_at listed i)) false reached → OnOk r (AreGroups S listed ids' groups')
+on_ok_groups S listed i norm bars reached ids ids' groups groups' (Ok u) h before is above under = h S listed before is above under
+on_ok_groups S listed i norm bars reached ids ids' groups groups' (Err x) h before is above under = tt

@@ -52,6 +52,14 @@ module _ (old : Tally) (others : List ClassValue) (c : ClassValue) where
         omega (arith, ap (λ (x : List ℕ). length c.ids * length x) none);
   }
 
+  -- a class without rows adds nothing
+  pub gained_without_rows : length c.ids ≡ 0 → HasGained old old others c
+  gained_without_rows empty = record {
+    base_is = refl;
+    span = omega arith;
+    counts = λ i l. omega (arith, ap (λ n. n * length (ids_at others ((old.base + i) - c.norm))) empty);
+  }
+
   -- one class more
   pub gained_more : (mid new : Tally) (k place n : ℕ) → k < length others → 0 < norm_at others k → HasGained old mid (take k others) c → mid.base + place ≡ c.norm + norm_at others k
       → n ≡ length c.ids * length (get_or others k no_class).ids → HasRaised mid new place n → HasGained old new (take (k + 1) others) c

@@ -36,6 +36,14 @@ IsAny lines places bits = (r : ℕ) → r < 64 → bit_at bits r ≡ 1 → (a : 
 abbrev pub AreInside : ℕ → List ℕ → Type 0
 AreInside n places = (a : ℕ) → a < length places → slice_index_or places a 0 < n
 
+-- row r is marked in the line at a place
+abbrev pub IsMarkedAt : List ℕ → ℕ → ℕ → Type 0
+IsMarkedAt lines r m = (m < length lines) × HasBit lines m r
+
+-- the same for the lines at places
+abbrev pub AreMarked : List ℕ → ℕ → List ℕ → Type 0
+AreMarked lines r places = (a : ℕ) → a < length places → IsMarkedAt lines r (slice_index_or places a 0)
+
 -- the lines at the places are said
 abbrev pub AreSaid : Bool → List ℕ → List ℕ → Type 0
 AreSaid upper levels places = (a : ℕ) → a < length places → (slice_index_or places a 0 < 8 * length levels) × IsSaid upper levels (slice_index_or places a 0)

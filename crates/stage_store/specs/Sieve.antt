@@ -55,10 +55,16 @@ abbrev pub AreReads : (ℕ → Type 0) → ℕ → List ℕ → Type 0
 AreReads P n places = (a : ℕ) → a < length places → (slice_index_or places a 0 < n) × P (slice_index_or places a 0)
 
 -- ---- the tables
+-- the norms of the rows of group a are from `least` to `most`
+abbrev pub AreBetween : List (List ℤ) → List ℕ → ℕ → ℕ → ℕ → Type 0
+AreBetween listed ids a least most = (r : ℕ) → r < 64 → 64 * a + r < length ids
+    → (least ≤ stage_norm (row_at listed (slice_index_or ids (64 * a + r) 0))) × (stage_norm (row_at listed (slice_index_or ids (64 * a + r) 0)) ≤ most)
+
 -- a group of lines tells of its 64 of the rows at the places
 pub record IsGroup (S : LinearSystem) (listed : List (List ℤ)) (ids : List ℕ) (a : ℕ) (g : Group) : Type 0 where
   pub bars : Tell (BarsLine S listed) listed ids a g.bars
   pub reached : Tell ReachesLine listed ids a g.reached
+  pub norms : AreBetween listed ids a g.least g.most
 
 abbrev pub AreGroups : LinearSystem → List (List ℤ) → List ℕ → List Group → Type 0
 AreGroups S listed ids groups = (a : ℕ) (d : Group) → a < length groups → IsGroup S listed ids a (slice_index_or groups a d)

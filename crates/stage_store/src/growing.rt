@@ -48,6 +48,19 @@ fn has_norm(row: &[i64], width: usize, least: u64) -> bool
     }
 }
 
+/// The norm of a row with its last entry.
+#[tactic(auto, using(crate::proofs::Signs::front_laws))]
+pub fn norm_of(row: &[i64], width: usize) -> u64
+    requires width { length row.now ≡ width + 1 }
+    requires small { stage_norm row.now ≤ 9223372036854775807 }
+    ensures { result ≡ stage_norm row.now }
+{
+    match norm(&row[..width]) {
+        Some(n) => n,
+        None => unreachable!(),
+    }
+}
+
 /// The rows of `waits` from one place up to another and the rows of `sums` in order, each once.
 pub fn merged_rows(
     alloc: Global,

@@ -10,17 +10,24 @@ use std::alloc::{AllocError, Global};
 /// For so many rows a search is made: it takes longer than a pair or two.
 const WORTH: u64 = 4;
 
-/// The rows of a table that are left, a bit each.
+/// The rows of a group that are left, a bit each.
+#[derive(Clone, Copy, Drop)]
+struct LeftIn {
+    group: usize,
+    rows: u64,
+}
+
+/// The rows of a table that are left, by groups that have some.
 #[derive(Drop)]
 pub struct Left {
-    words: Vec<u64>,
+    parts: Vec<LeftIn>,
 }
 
 impl Left {
     /// None are left.
     pub fn new(alloc: Global) -> Left {
         Left {
-            words: Vec::new(alloc),
+            parts: Vec::new(alloc),
         }
     }
 
@@ -36,30 +43,47 @@ impl Left {
         requires bars { AreInside count bar_reads.now }
         requires reached { AreInside count reach_reads.now }
     {
-        self.words.truncate(0);
+        self.parts.truncate(0);
         let mut left: u64 = 0;
         for group in 0..table.groups() {
-            let word = table.left_in(count, group, bar_reads, reach_reads);
-            left = left.saturating_add(u64::from(word.count_ones()));
-            self.words.push(word)?;
+            let rows = table.left_in(count, group, bar_reads, reach_reads);
+            left = left.saturating_add(u64::from(rows.count_ones()));
+            self.put(group, rows)?;
         }
         Ok(left)
+    }
+
+    /// Notes the rows of a group that are left, if there are any.
+    fn put(&mut self, group: usize, rows: u64) -> Result<(), AllocError> {
+        if rows == 0 {
+            return Ok(());
+        }
+        self.parts.push(LeftIn { group, rows })?;
+        Ok(())
     }
 
     /// Whether so many of the rows reach an item that a search is worth it.
     pub fn wants(&self, table: &Table, item: usize) -> bool {
         let mut rows: u64 = 0;
-        for group in 0..self.words.len() {
-            let word = self.words[group] & table.reached_line(group, item, 0);
+        for part in &self.parts {
+            let word = part.rows & table.reached_line(part.group, item, 0);
             rows = rows.saturating_add(u64::from(word.count_ones()));
+            if rows >= WORTH {
+                return true;
+            }
         }
-        rows >= WORTH
+        false
     }
 
     /// Takes out the rows that reach an item at a level.
     pub fn take_out(&mut self, table: &Table, item: usize, level: u8) {
-        for group in 0..self.words.len() {
-            self.words[group] &= !table.reached_line(group, item, level);
+        if level > 7 {
+            return;
         }
+        for k in 0..self.parts.len() {
+            let part = self.parts[k];
+            self.parts[k].rows = part.rows & !table.reached_line(part.group, item, level);
+        }
+        self.parts.retain(|part| part.rows != 0);
     }
 }

@@ -108,6 +108,24 @@ fn shows_near(
     below(other, probe)
 }
 
+/// How much larger one entry is than another, by their absolute values.
+fn excess(entry: i64, other: i64) -> u64 {
+    entry.unsigned_abs().saturating_sub(other.unsigned_abs())
+}
+
+/// The least level, up to one, of at least this amount.
+fn level_for(size: u64, most: u8) -> u8
+    requires { most < 8 }
+    ensures { result ≤ most }
+{
+    for level in 0..most {
+        if size <= amount(level) {
+            return level;
+        }
+    }
+    most
+}
+
 /// The least level, up to one, at which this listed row is near another.
 fn settle(
     listed: &Pool,
@@ -130,14 +148,12 @@ fn settle(
     ensures near { IsNear listed.now.rows row.now column positive result }
 {
     let other = listed.row(id);
-    let mut known = level;
-    while known > 0 {
-        if !shows_near(other, row, column, positive, known - 1, probe) {
-            return known;
-        }
-        known -= 1;
+    let least = level_for(excess(other[column], row[column]), level);
+    if shows_near(other, row, column, positive, least, probe) {
+        least
+    } else {
+        level
     }
-    known
 }
 
 /// A listed row that is near a row at a level.

@@ -91,11 +91,18 @@ fn stands_at(rows: &Pool, place: u32, sum: &[i64]) -> bool
 /// Where the place of a sum is remembered, by a hash.
 fn slot_of(sum: &[i64]) -> usize {
     let mut hash: u64 = 0;
+    let mut weight: u64 = 0x9E37_79B9_7F4A_7C15;
     for entry in sum {
-        hash = (hash ^ entry.unsigned_abs()).wrapping_mul(0x9E37_79B9_7F4A_7C15);
-        hash ^= hash >> 29;
+        let part = entry.unsigned_abs().wrapping_mul(weight);
+        // A vector and its negative mostly come in one norm, and have different places.
+        hash = if *entry < 0 {
+            hash.wrapping_sub(part)
+        } else {
+            hash.wrapping_add(part)
+        };
+        weight = weight.rotate_left(7);
     }
-    (hash % 4096) as usize
+    (hash >> 52) as usize
 }
 
 /// Which of some places has a listed row that is below a sum.

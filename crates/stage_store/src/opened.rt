@@ -10,7 +10,8 @@ ghost use Rattle.stage_store.specs.Sieve.{AreNormed};
 ghost use Rattle.stage_store.specs.Opened.{AreAscending, AscendWithin, AreStarts, HasNoClass, IsClassOf, IsPlacedIn, IsNumberOf, HasNoNumber, IsNotNumbered, AreOpened, open_number};
 
 use crate::class::{Class, ids_of_norm, place_from, size_near};
-use crate::sieve::{KeptPair, norm_of};
+use crate::growing::norm_of;
+use crate::sieve::KeptPair;
 use row_pool::{Pool, RowId};
 use std::alloc::{AllocError, Global};
 

@@ -4,11 +4,14 @@
 //! sum of f and a partner whose last entry is larger than f's by |t| or more has that row below it. So |t| is a reach of
 //! f: it bounds the partners that are to be looked at. Any such row will do; the one with the least |t| serves most.
 
-ghost use Rattle.std.specs.Prelude.{◌≡◌, ◌+◌, ◌<◌, ◌≤◌, List, ℤ, length, IfSome};
+ghost use Rattle.std.specs.Prelude.{◌≡◌, ◌↔◌, ◌+◌, ◌<◌, ◌≤◌, List, ℤ, length, pos, slice_index_or, All, IfSome, IsTrue};
 ghost use Rattle.stage_store.specs.Found.{IsReduced};
 ghost use Rattle.stage_store.specs.Indexed.{HoldsRows};
 ghost use Rattle.std.specs.List.{Contains};
-ghost use Rattle.stage_store.specs.Reaches.{entry_against, with_reach, IsReachOr};
+ghost use Rattle.lift_core.specs.Systems.{LinearSystem};
+ghost use Rattle.row_pool.specs.Rows.{InRange};
+ghost use Rattle.stage_store.specs.Reaches.{entry_against, with_reach, AreFarApart, AreReaches, IsReachOr};
+ghost use Rattle.stage_store.specs.Sieve.{HasNoNewSum, HasNoNewSumBy};
 
 use int_vector::{Visits, below};
 use reduce_tree::Tree;
@@ -117,4 +120,72 @@ pub fn reach_of(listed: &Pool, tree: &Tree, row: &[i64], probe: &mut [i64]) -> u
         next = low + reach.saturating_sub(low) / 2;
     }
     reach
+}
+
+/// Whether a value is larger than another by a reach or more. A reach of 0 tells nothing.
+fn is_past(large: u64, small: u64, reach: u64) -> bool
+    requires { large ≤ 9223372036854775807 }
+    ensures { IsTrue result ↔ ((0 < reach) × (small + reach ≤ large)) }
+{
+    reach > 0 && large >= small && large - small >= reach
+}
+
+/// Whether the last entries of two rows, the first above 0 and the second below it, are so far apart that the sum has a
+/// listed row below it.
+fn is_far(first: &[i64], second: &[i64], width: usize, reach: u64, other_reach: u64) -> bool
+    requires first { length first.now ≡ width + 1 }
+    requires second { length second.now ≡ width + 1 }
+    requires first_range { All InRange first.now }
+    requires second_range { All InRange second.now }
+    ensures { IsTrue result → AreFarApart (slice_index_or first.now width (pos 0)) (slice_index_or second.now width (pos 0)) reach other_reach }
+{
+    let above = first[width];
+    let under = second[width];
+    if above <= 0 || under >= 0 {
+        return false;
+    }
+    let up = above.unsigned_abs();
+    let down = under.unsigned_abs();
+    is_past(down, up, reach) || is_past(up, down, other_reach)
+}
+
+/// Whether the pair of two places is known to have no irreducible sum, by the reaches of its rows.
+fn are_far(listed: &Pool, width: usize, reaches: &[u64], f: u32, g: u32) -> bool
+    requires width { listed.now.width ≡ width + 1 }
+    requires reaches { AreReaches listed.now.rows reaches.now }
+    requires count { length reaches.now ≤ length listed.now.rows }
+    requires one { f < length reaches.now }
+    requires two { g < length reaches.now }
+    ensures { (S : LinearSystem) → IsTrue result → HasNoNewSum S listed.now.rows f g }
+{
+    is_far(
+        listed.row(RowId(f)),
+        listed.row(RowId(g)),
+        width,
+        reaches[f as usize],
+        reaches[g as usize],
+    )
+}
+
+/// Whether the pair of a row and another is known to have no irreducible sum, by the reaches of the two.
+pub fn is_passed(
+    listed: &Pool,
+    width: usize,
+    reaches: &[u64],
+    positive: bool,
+    i: u32,
+    j: u32,
+) -> bool
+    requires width { listed.now.width ≡ width + 1 }
+    requires reaches { AreReaches listed.now.rows reaches.now }
+    requires count { length reaches.now ≤ length listed.now.rows }
+    requires one { i < length reaches.now }
+    requires two { j < length reaches.now }
+    ensures { (S : LinearSystem) → IsTrue result → HasNoNewSumBy positive S listed.now.rows i j }
+{
+    if positive {
+        are_far(listed, width, reaches, i, j)
+    } else {
+        are_far(listed, width, reaches, j, i)
+    }
 }

@@ -3,7 +3,7 @@
 //! Pairs of a norm that is closed are not kept. Nor are pairs from the horizon on: it is lowered where there would be
 //! more pairs than are allowed, so that those of the next norms stay.
 
-ghost use Rattle.std.specs.Prelude.{◌≡◌, ◌%◌, ◌<◌, ◌≤◌, ◌++◌, ◌∷◌, [], List, length, slice_index_or, OnOk, OnErr, IfOk, IsTrue};
+ghost use Rattle.std.specs.Prelude.{◌≡◌, ◌⊎◌, ◌+◌, ◌%◌, ◌<◌, ◌≤◌, ◌++◌, ◌∷◌, [], List, length, slice_index_or, OnOk, OnErr, IfOk, IsTrue};
 ghost use Rattle.std.specs.List.{Contains};
 ghost use Rattle.stage_store.specs.Shelves.{IsKept, Stay};
 
@@ -106,6 +106,8 @@ pub struct Shelves {
     closed: u64,
     /// Pairs from this norm on are not kept.
     horizon: u64,
+    /// How far the horizon was from the closed norm when it was set. No clause rests on it.
+    window: u64,
     /// How many pairs are kept, and how many may be. No clause rests on them.
     count: usize,
     room: usize,
@@ -142,6 +144,7 @@ impl Shelves {
             shelves: empty_shelves(alloc)?,
             closed: 0,
             horizon: u64::MAX,
+            window: u64::MAX,
             count: 0,
             room: LEAST_ROOM,
         })
@@ -162,14 +165,35 @@ impl Shelves {
         self.shelves[(norm % 256) as usize].pairs()
     }
 
-    /// Begins anew, without pairs: each one may be kept.
-    pub fn begin(&mut self, alloc: Global)
+    /// Whether no pair is kept that has the norm of one row and one from `least` to `most` together.
+    pub fn leaves_out(&self, norm: u64, least: u64, most: u64) -> bool
+        ensures { IsTrue result → (norm + most ≤ self.now.closed) ⊎ (self.now.horizon ≤ norm + least) }
+    {
+        if norm <= self.closed && most <= self.closed - norm {
+            return true;
+        }
+        self.horizon <= norm.saturating_add(least)
+    }
+
+    /// Begins anew at a closed norm, without pairs: the next norms are those of which pairs may be kept, twice as many as
+    /// fitted last.
+    pub fn reopen(&mut self, alloc: Global, norm: u64, next: u64)
         requires { length self.old.shelves.items ≡ 256 }
         ensures shelves { length self.new.shelves.items ≡ 256 }
-        ensures closed { self.new.closed ≡ 0 }
+        ensures closed { self.new.closed ≡ norm }
     {
-        self.closed = 0;
-        self.horizon = u64::MAX;
+        self.window = self.window.saturating_mul(2).saturating_add(1);
+        self.begin(alloc, norm, next.saturating_add(self.window));
+    }
+
+    /// Begins anew, without pairs: those of the norms between these two may be kept.
+    pub fn begin(&mut self, alloc: Global, closed: u64, horizon: u64)
+        requires { length self.old.shelves.items ≡ 256 }
+        ensures shelves { length self.new.shelves.items ≡ 256 }
+        ensures closed { self.new.closed ≡ closed }
+    {
+        self.closed = closed;
+        self.horizon = horizon;
         self.count = 0;
         for k in 0..SHELVES {
             self.shelves[k] = Shelf::new(alloc);
@@ -239,6 +263,7 @@ impl Shelves {
                 return;
             }
             self.horizon = middle(self.closed, self.horizon);
+            self.window = self.horizon.saturating_sub(self.closed);
             self.drop_beyond();
         }
     }

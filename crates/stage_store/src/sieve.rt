@@ -3,28 +3,26 @@
 //! A pair is sifted once, when the later of its rows is listed: the new row meets lines of bits over all rows of the
 //! other sign, 64 at a time. What is left is kept on the shelf of its norm.
 
-ghost use Rattle.std.specs.Prelude.{◌≡◌, ◌+◌, ◌-◌, ◌*◌, ◌/◌, ◌%◌, ◌<◌, ◌≤◌, ◌^◌, ◌++◌, ◌∷◌, [], ℕ, ℤ, List, length, take, drop, true, false, Bool, slice_index_or, OnOk, OnErr, IfOk, IsTrue, All, pos, ◌↔◌};
+ghost use Rattle.std.specs.Prelude.{◌≡◌, ◌+◌, ◌-◌, ◌*◌, ◌/◌, ◌%◌, ◌<◌, ◌≤◌, ◌^◌, ◌++◌, ◌∷◌, [], ℕ, ℤ, List, length, take, drop, true, false, Bool, slice_index_or, OnOk, OnErr, IfOk, IsTrue};
 ghost use Rattle.std.specs.Int.{bit_at};
 ghost use Rattle.std.specs.List.{AllByRecursion, Contains};
 ghost use Rattle.lift_core.specs.Systems.{LinearSystem};
 ghost use Rattle.lift_core.specs.ToolSystems.{width};
-ghost use Rattle.row_pool.specs.Rows.{InRange};
 ghost use Rattle.stage_store.specs.Indexed.{HoldsRows};
 ghost use Rattle.lift_core.specs.Stages.{stage_norm, has_positive_last, has_negative_last};
 ghost use Rattle.stage_store.specs.Classes.{row_at, rows_at, places, sign_test};
 ghost use Rattle.stage_store.specs.Lines.{AreClear, AreInside};
 ghost use Rattle.stage_store.specs.Levels.{AreTrue, BarsLine, ReachesLine};
-ghost use Rattle.stage_store.specs.Reaches.{AreFarApart, AreReaches};
+ghost use Rattle.stage_store.specs.Reaches.{AreReaches};
 ghost use Rattle.stage_store.specs.Shelves.{IsKept, Stay};
-ghost use Rattle.stage_store.specs.Sieve.{HasNoNewSum, HasNoNewSumBy, IsSiftedBy, AreSiftedBy, IsGroup, AreGroups, IsSized, AreSized, IsDead, IsTable, IsSieveTo, IsSieve, IsNewSieve, IsRoom, AreAsked, AreNormed, AreWide, pair_by};
+ghost use Rattle.stage_store.specs.Sieve.{HasNoNewSumBy, IsSiftedBy, AreSiftedBy, AreSifted, IsGroup, AreGroups, IsSized, AreSized, IsDead, IsTable, IsSieveTo, IsSieve, IsNewSieve, IsRoom, AreAsked, AreReads, AreNormed, AreWide, pair_by};
 
-use crate::growing::has_sign;
+use crate::growing::{has_sign, norm_of};
 use crate::left::Left;
 use crate::lines::{Lines, take_said};
 use crate::marks::{fill_bars, fill_reached};
-use crate::reach::reach_of;
+use crate::reach::{is_passed, reach_of};
 use crate::shelves::Shelves;
-use int_vector::norm;
 use lift_core::System;
 use reduce_tree::Tree;
 use row_pool::{Pool, RowId};
@@ -43,6 +41,10 @@ pub struct KeptPair {
 pub struct Group {
     bars: Lines,
     reached: Lines,
+    /// No row has a norm below this one.
+    least: u64,
+    /// No row has a norm above this one.
+    most: u64,
 }
 
 /// The listed rows of one sign of the last entry, by their places, and lines over each 64 of them.
@@ -78,19 +80,6 @@ pub struct Sieve {
     minus: Table,
     /// The pairs that may have an irreducible sum.
     shelves: Shelves,
-}
-
-/// The norm of a row with its last entry.
-#[tactic(auto, using(crate::proofs::Signs::front_laws))]
-pub fn norm_of(row: &[i64], width: usize) -> u64
-    requires width { length row.now ≡ width + 1 }
-    requires small { stage_norm row.now ≤ 9223372036854775807 }
-    ensures { result ≡ stage_norm row.now }
-{
-    match norm(&row[..width]) {
-        Some(n) => n,
-        None => unreachable!(),
-    }
 }
 
 /// The pair of a row and another, where the first one's last entry is above 0 or below it.
@@ -133,67 +122,6 @@ fn keep_rows(
     let one = norm_of(listed.row(RowId(i)), width);
     let two = norm_of(listed.row(RowId(j)), width);
     shelves.keep(pair_of(positive, one + two, i, j))
-}
-
-/// Whether a value is larger than another by a reach or more. A reach of 0 tells nothing.
-fn is_past(large: u64, small: u64, reach: u64) -> bool
-    requires { large ≤ 9223372036854775807 }
-    ensures { IsTrue result ↔ ((0 < reach) × (small + reach ≤ large)) }
-{
-    reach > 0 && large >= small && large - small >= reach
-}
-
-/// Whether the last entries of two rows, the first above 0 and the second below it, are so far apart that the sum has a
-/// listed row below it.
-fn is_far(first: &[i64], second: &[i64], width: usize, reach: u64, other_reach: u64) -> bool
-    requires first { length first.now ≡ width + 1 }
-    requires second { length second.now ≡ width + 1 }
-    requires first_range { All InRange first.now }
-    requires second_range { All InRange second.now }
-    ensures { IsTrue result → AreFarApart (slice_index_or first.now width (pos 0)) (slice_index_or second.now width (pos 0)) reach other_reach }
-{
-    let above = first[width];
-    let under = second[width];
-    if above <= 0 || under >= 0 {
-        return false;
-    }
-    let up = above.unsigned_abs();
-    let down = under.unsigned_abs();
-    is_past(down, up, reach) || is_past(up, down, other_reach)
-}
-
-/// Whether the pair of two places is known to have no irreducible sum, by the reaches of its rows.
-fn are_far(listed: &Pool, width: usize, reaches: &[u64], f: u32, g: u32) -> bool
-    requires width { listed.now.width ≡ width + 1 }
-    requires reaches { AreReaches listed.now.rows reaches.now }
-    requires count { length reaches.now ≤ length listed.now.rows }
-    requires one { f < length reaches.now }
-    requires two { g < length reaches.now }
-    ensures { (S : LinearSystem) → IsTrue result → HasNoNewSum S listed.now.rows f g }
-{
-    is_far(
-        listed.row(RowId(f)),
-        listed.row(RowId(g)),
-        width,
-        reaches[f as usize],
-        reaches[g as usize],
-    )
-}
-
-/// Whether the pair of a row and another is known to have no irreducible sum, by the reaches of the two.
-fn is_passed(listed: &Pool, width: usize, reaches: &[u64], positive: bool, i: u32, j: u32) -> bool
-    requires width { listed.now.width ≡ width + 1 }
-    requires reaches { AreReaches listed.now.rows reaches.now }
-    requires count { length reaches.now ≤ length listed.now.rows }
-    requires one { i < length reaches.now }
-    requires two { j < length reaches.now }
-    ensures { (S : LinearSystem) → IsTrue result → HasNoNewSumBy positive S listed.now.rows i j }
-{
-    if positive {
-        are_far(listed, width, reaches, i, j)
-    } else {
-        are_far(listed, width, reaches, j, i)
-    }
 }
 
 /// Sifts the pairs of a row with at most 64 others, each of which has a bit of `dead` that tells, where it is set,
@@ -249,6 +177,8 @@ impl Group {
         Ok(Group {
             bars: Lines::new(alloc, count)?,
             reached: Lines::new(alloc, count)?,
+            least: u64::MAX,
+            most: 0,
         })
     }
 
@@ -258,7 +188,11 @@ impl Group {
         requires reached { AreInside (length self.now.reached) reach_reads.now }
         ensures { IsDead self.now bar_reads.now reach_reads.now result }
     {
-        self.bars.any(bar_reads) | self.reached.any(reach_reads)
+        let barred = self.bars.any(bar_reads);
+        if barred == u64::MAX {
+            return barred;
+        }
+        barred | self.reached.any(reach_reads)
     }
 }
 
@@ -333,8 +267,15 @@ impl Table {
         Ok(())
     }
 
-    /// Takes in a row, with what it bars and reaches.
-    fn push(&mut self, alloc: Global, i: u32, bars: &[u8], reached: &[u8]) -> Result<(), AllocError>
+    /// Takes in a row, with its norm and what it bars and reaches.
+    fn push(
+        &mut self,
+        alloc: Global,
+        i: u32,
+        norm: u64,
+        bars: &[u8],
+        reached: &[u8],
+    ) -> Result<(), AllocError>
         requires few { length bars.now ≤ 260 }
         requires lengths { length bars.now ≡ length reached.now }
         requires count { length self.old.groups.items ≡ (length self.old.ids.items + 63) / 64 }
@@ -343,6 +284,7 @@ impl Table {
         ensures count { OnOk result (length self.new.groups.items ≡ (length self.new.ids.items + 63) / 64) }
         ensures sized { OnOk result (AreSized (8 * length bars.now) self.new.groups.items) }
         ensures groups { OnOk result ((S : LinearSystem) (listed : List (List ℤ)) → AreGroups S listed self.old.ids.items self.old.groups.items
+            → norm ≡ stage_norm (row_at listed i)
             → AreTrue (BarsLine S listed (row_at listed i)) true bars.now → AreTrue (ReachesLine (row_at listed i)) false reached.now
             → AreGroups S listed self.new.ids.items self.new.groups.items) }
     {
@@ -352,6 +294,8 @@ impl Table {
         let group = &mut self.groups[place / 64];
         group.bars.mark(true, bars, place % 64);
         group.reached.mark(false, reached, place % 64);
+        group.least = group.least.min(norm);
+        group.most = group.most.max(norm);
         Ok(())
     }
 }
@@ -439,7 +383,8 @@ impl Room {
     }
 }
 
-/// Sifts the pairs of a row with the rows of the other sign that a table has.
+/// Sifts the pairs of a row with the rows of the other sign that a table has, of which those of the kept norms alone are
+/// looked at. The lines that are read for the row are at these places.
 fn sift_row(
     shelves: &mut Shelves,
     system: &System,
@@ -448,7 +393,8 @@ fn sift_row(
     positive: bool,
     i: u32,
     table: &Table,
-    room: &Room,
+    bar_reads: &[usize],
+    reach_reads: &[usize],
 ) -> Result<(), AllocError>
     requires count { length shelves.old.shelves.items ≡ 256 }
     requires reaches { AreReaches listed.now.rows reaches.now }
@@ -462,17 +408,106 @@ fn sift_row(
     requires groups { length table.now.groups.items ≡ (length table.now.ids.items + 63) / 64 }
     requires sized { AreSized (16 * width system.now.equations) table.now.groups.items }
     requires tell { AreGroups system.now.equations listed.now.rows table.now.ids.items table.now.groups.items }
-    requires asked { AreAsked system.now.equations listed.now.rows (row_at listed.now.rows i) room.now }
+    requires bar_reads { AreReads (ReachesLine (row_at listed.now.rows i)) (16 * width system.now.equations) bar_reads.now }
+    requires reach_reads { AreReads (BarsLine system.now.equations listed.now.rows (row_at listed.now.rows i)) (16 * width system.now.equations) reach_reads.now }
     ensures count { length shelves.new.shelves.items ≡ 256 }
     ensures stay { Stay shelves.old shelves.new }
     ensures sifted { OnOk result (AreSiftedBy positive system.now.equations listed.now.rows shelves.new i table.now.ids.items) }
 {
+    let norm = norm_of(listed.row(RowId(i)), system.width() as usize);
     for group in 0..table.groups.len() {
+        let lines = &table.groups[group];
+        if shelves.leaves_out(norm, lines.least, lines.most) {
+            continue;
+        }
         let from = 64 * group;
         let to = table.ids.len().min(from + 64);
-        let dead = table.groups[group].dead(&room.bar_reads, &room.reach_reads);
+        let dead = lines.dead(bar_reads, reach_reads);
         let others = &table.ids[from..to];
         sift_group(shelves, system, listed, reaches, positive, i, others, dead)?;
+    }
+    Ok(())
+}
+
+/// Sifts the pairs of the row at a place of one table with the rows of the other anew, by what the tables tell.
+fn sift_row_anew(
+    shelves: &mut Shelves,
+    system: &System,
+    listed: &Pool,
+    reaches: &[u64],
+    plus: &Table,
+    minus: &Table,
+    k: usize,
+    bar_reads: &mut Vec<usize>,
+    reach_reads: &mut Vec<usize>,
+) -> Result<(), AllocError>
+    requires count { length shelves.old.shelves.items ≡ 256 }
+    requires reaches { AreReaches listed.now.rows reaches.now }
+    requires reach_count { length reaches.now ≤ length listed.now.rows }
+    requires width { listed.now.width ≡ width system.now.equations + 1 }
+    requires norms { AreNormed listed.now.rows }
+    requires wide { AreWide (width system.now.equations + 1) listed.now.rows }
+    requires few { length listed.now.rows ≤ 2 ^ 21 }
+    requires plus { IsTable system.now.equations listed.now.rows has_positive_last (length reaches.now) plus.now }
+    requires minus { IsTable system.now.equations listed.now.rows has_negative_last (length reaches.now) minus.now }
+    requires place { k < length plus.now.ids.items }
+    ensures count { length shelves.new.shelves.items ≡ 256 }
+    ensures stay { Stay shelves.old shelves.new }
+    ensures sifted { OnOk result (AreSiftedBy true system.now.equations listed.now.rows shelves.new (slice_index_or plus.now.ids.items k 0) minus.now.ids.items) }
+{
+    let group = &plus.groups[k / 64];
+    group.reached.take_marked(false, k % 64, bar_reads)?;
+    group.bars.take_marked(true, k % 64, reach_reads)?;
+    sift_row(
+        shelves,
+        system,
+        listed,
+        reaches,
+        true,
+        plus.ids[k],
+        minus,
+        bar_reads,
+        reach_reads,
+    )
+}
+
+/// Sifts the pairs of the rows of two tables anew, by what the tables tell.
+fn sift_tables(
+    alloc: Global,
+    shelves: &mut Shelves,
+    system: &System,
+    listed: &Pool,
+    reaches: &[u64],
+    plus: &Table,
+    minus: &Table,
+) -> Result<(), AllocError>
+    requires count { length shelves.old.shelves.items ≡ 256 }
+    requires reaches { AreReaches listed.now.rows reaches.now }
+    requires reach_count { length reaches.now ≤ length listed.now.rows }
+    requires width { listed.now.width ≡ width system.now.equations + 1 }
+    requires norms { AreNormed listed.now.rows }
+    requires wide { AreWide (width system.now.equations + 1) listed.now.rows }
+    requires few { length listed.now.rows ≤ 2 ^ 21 }
+    requires plus { IsTable system.now.equations listed.now.rows has_positive_last (length reaches.now) plus.now }
+    requires minus { IsTable system.now.equations listed.now.rows has_negative_last (length reaches.now) minus.now }
+    ensures count { length shelves.new.shelves.items ≡ 256 }
+    ensures stay { Stay shelves.old shelves.new }
+    ensures sifted { OnOk result (AreSifted system.now.equations listed.now.rows (length reaches.now) shelves.new) }
+{
+    let mut bar_reads = Vec::new(alloc);
+    let mut reach_reads = Vec::new(alloc);
+    for k in 0..plus.ids.len() {
+        sift_row_anew(
+            shelves,
+            system,
+            listed,
+            reaches,
+            plus,
+            minus,
+            k,
+            &mut bar_reads,
+            &mut reach_reads,
+        )?;
     }
     Ok(())
 }
@@ -500,31 +535,65 @@ impl Sieve {
         self.reaches = Vec::new(alloc);
         self.plus = Table::new(alloc);
         self.minus = Table::new(alloc);
-        self.shelves.begin(alloc);
+        self.shelves.begin(alloc, 0, u64::MAX);
     }
 
-    /// Begins anew where pairs of the next norm were not kept.
-    fn renew(&mut self, alloc: Global, norm: u64, next: u64)
-        requires shelves { length self.old.shelves.shelves.items ≡ 256 }
-        requires closed { self.old.shelves.closed ≤ norm }
+    /// Sifts the pairs of the rows that were sifted anew, where those of the next norm were not kept.
+    fn renew(
+        &mut self,
+        alloc: Global,
+        system: &System,
+        listed: &Pool,
+        norm: u64,
+        next: u64,
+    ) -> Result<(), AllocError>
+        requires width { listed.now.width ≡ width system.now.equations + 1 }
+        requires few { length listed.now.rows ≤ 2 ^ 21 }
+        requires norms { AreNormed listed.now.rows }
+        requires wide { AreWide (width system.now.equations + 1) listed.now.rows }
+        requires held { IsSieve system.now.equations listed.now.rows norm self.old }
         ensures shelves { length self.new.shelves.shelves.items ≡ 256 }
-        ensures closed { self.new.shelves.closed ≤ norm }
-        ensures held { (S : LinearSystem) (listed : List (List ℤ)) → IsSieve S listed norm self.old → IsSieve S listed norm self.new }
+        ensures held { OnOk result (IsSieve system.now.equations listed.now.rows norm self.new) }
     {
         if next < self.shelves.horizon() {
-            return;
+            return Ok(());
         }
-        self.begin(alloc);
+        self.shelves.reopen(alloc, norm, next);
+        sift_tables(
+            alloc,
+            &mut self.shelves,
+            system,
+            listed,
+            &self.reaches,
+            &self.plus,
+            &self.minus,
+        )
     }
 
-    /// Drops the pairs of the closed norm, and begins anew where pairs of the next one were not kept.
-    fn turn(&mut self, alloc: Global, norm: u64, next: u64, rows: u32)
-        requires shelves { length self.old.shelves.shelves.items ≡ 256 }
-        requires closed { self.old.shelves.closed ≤ norm }
-        ensures { (S : LinearSystem) (listed : List (List ℤ)) → IsSieve S listed norm self.old → IsSieve S listed norm self.new }
+    /// Drops the pairs of the closed norm, sees to it that those of the next one are kept, and sifts those of the rows
+    /// that were listed since.
+    fn sift_on(
+        &mut self,
+        alloc: Global,
+        system: &System,
+        listed: &Pool,
+        tree: &Tree,
+        norm: u64,
+        next: u64,
+    ) -> Result<(), AllocError>
+        requires indexed { HoldsRows tree.now listed.now }
+        requires width { listed.now.width ≡ width system.now.equations + 1 }
+        requires narrow { width system.now.equations ≤ 129 }
+        requires few { length listed.now.rows ≤ 2 ^ 21 }
+        requires norms { AreNormed listed.now.rows }
+        requires wide { AreWide (width system.now.equations + 1) listed.now.rows }
+        requires held { IsSieve system.now.equations listed.now.rows norm self.old }
+        ensures shelves { length self.new.shelves.shelves.items ≡ 256 }
+        ensures upto { OnOk result (IsSieveTo system.now.equations listed.now.rows norm (length listed.now.rows) self.new) }
     {
-        self.renew(alloc, norm, next);
-        self.shelves.close(norm, rows);
+        self.renew(alloc, system, listed, norm, next)?;
+        self.shelves.close(norm, listed.len());
+        self.sift_rows(alloc, system, listed, tree, norm)
     }
 
     /// Sifts the pairs of the rows that were listed since, before the next norm is opened. After an error nothing counts as
@@ -547,8 +616,7 @@ impl Sieve {
         requires held { IsSieve system.now.equations listed.now.rows norm self.old }
         ensures held { IsSieve system.now.equations listed.now.rows norm self.new }
     {
-        self.turn(alloc, norm, next, listed.len());
-        match self.sift_rows(alloc, system, listed, tree, norm) {
+        match self.sift_on(alloc, system, listed, tree, norm, next) {
             Ok(()) => {
                 self.rows = listed.len();
                 Ok(())
@@ -663,7 +731,9 @@ impl Sieve {
         ensures upto { OnOk result (IsSieveTo system.now.equations listed.now.rows norm (i + 1) self.new) }
     {
         room.ask(system, listed, tree, i, &self.minus)?;
-        let reach = reach_of(listed, tree, listed.row(RowId(i)), &mut room.probe);
+        let row = listed.row(RowId(i));
+        let own = norm_of(row, system.width() as usize);
+        let reach = reach_of(listed, tree, row, &mut room.probe);
         self.reaches.push(reach)?;
         sift_row(
             &mut self.shelves,
@@ -673,9 +743,10 @@ impl Sieve {
             true,
             i,
             &self.minus,
-            room,
+            &room.bar_reads,
+            &room.reach_reads,
         )?;
-        self.plus.push(alloc, i, &room.bars, &room.reached)
+        self.plus.push(alloc, i, own, &room.bars, &room.reached)
     }
 
     /// Sifts the pairs of a row with last entry below 0.
@@ -704,7 +775,9 @@ impl Sieve {
         ensures upto { OnOk result (IsSieveTo system.now.equations listed.now.rows norm (i + 1) self.new) }
     {
         room.ask(system, listed, tree, i, &self.plus)?;
-        let reach = reach_of(listed, tree, listed.row(RowId(i)), &mut room.probe);
+        let row = listed.row(RowId(i));
+        let own = norm_of(row, system.width() as usize);
+        let reach = reach_of(listed, tree, row, &mut room.probe);
         self.reaches.push(reach)?;
         sift_row(
             &mut self.shelves,
@@ -714,8 +787,9 @@ impl Sieve {
             false,
             i,
             &self.plus,
-            room,
+            &room.bar_reads,
+            &room.reach_reads,
         )?;
-        self.minus.push(alloc, i, &room.bars, &room.reached)
+        self.minus.push(alloc, i, own, &room.bars, &room.reached)
     }
 }

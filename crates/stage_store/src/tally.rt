@@ -99,6 +99,10 @@ impl Tally {
             self.span = 0;
             return;
         };
+        // Most norms list no row.
+        if firsts == 0 {
+            return;
+        }
         let from = place_from(others, self.base.saturating_sub(class.norm()));
         for k in from..others.len() {
             let Some(place) = self.place(class.norm().saturating_add(others[k].norm())) else {

@@ -5,8 +5,8 @@ use Rattle.stage_store.proofs.sieve.Sieve.sift.Goals as goal
 
 pub returns-in-Ok : goal.returns-in-Ok
 returns-in-Ok c =
-    let u : IsSieveTo c.args.system.now.equations c.args.listed.now.rows c.args.norm c.len-self.result c.sift_rows.new.self =
-    subst (λ (n : ℕ). IsSieveTo c.args.system.now.equations c.args.listed.now.rows c.args.norm n c.sift_rows.new.self) (sym c.len-self.ensures) c.in-Ok.ensures.upto in
+    let u : IsSieveTo c.args.system.now.equations c.args.listed.now.rows c.args.norm c.len-self.result c.sift_on.new.self =
+    subst (λ (n : ℕ). IsSieveTo c.args.system.now.equations c.args.listed.now.rows c.args.norm n c.sift_on.new.self) (sym c.len-self.ensures) c.in-Ok.ensures.upto in
     record {
       held = record {
         within = omega (arith, c.len-self.ensures);
@@ -21,12 +21,6 @@ returns-in-Ok c =
         };
       };
     }
-
-pub sift_rows-requires-clause-within : goal.sift_rows-requires-clause-within
-sift_rows-requires-clause-within c = (c.turn.ensures c.args.system.now.equations c.args.listed.now.rows c.requires.held).within
-
-pub sift_rows-requires-clause-upto : goal.sift_rows-requires-clause-upto
-sift_rows-requires-clause-upto c = (c.turn.ensures c.args.system.now.equations c.args.listed.now.rows c.requires.held).upto
 
 pub returns-in-Err : goal.returns-in-Err
 returns-in-Err c = record { held = new_sieve c.args.system.now.equations c.args.listed.now.rows c.args.norm c.begin.new.self c.begin.ensures }

@@ -1,7 +1,7 @@
-use Rattle.std.proofs.Common.{◌≡◌, ◌+◌, ◌*◌, ℕ, List, [], ◌∷◌, length, length-append, ap, sym, subst, arith, refl, true, false}
+use Rattle.std.proofs.Common.{◌≡◌, ◌∙◌, ◌+◌, ◌*◌, ℕ, List, [], ◌∷◌, length, length-append, ap, sym, subst, arith, refl, true, false}
 use Rattle.std.specs.Prelude.{ℤ, OnOk}
 use Rattle.lift_core.specs.ToolSystems.{width}
-use Rattle.lift_core.specs.Stages.{has_positive_last, has_negative_last}
+use Rattle.lift_core.specs.Stages.{stage_norm, has_positive_last, has_negative_last}
 use Rattle.stage_store.specs.Classes.{row_at}
 use Rattle.stage_store.specs.Levels.{AreTrue, BarsLine, ReachesLine}
 use Rattle.stage_store.specs.Reaches.{AreReaches, IsReachOr}
@@ -27,16 +27,17 @@ returns-clause-upto c =
     let count : length c.push.new.self.items ≡ c.args.i + 1 = omega (arith, ap length c.in_ok-push.ensures.items, length-append c.args.self.now.reaches.items (c.reach_of-reach.result ∷ []), c.requires.upto.reach_count) in
     let reaches : AreReaches c.args.listed.now.rows c.push.new.self.items =
     one_reach_more c.args.listed.now.rows c.args.self.now.reaches.items c.push.new.self.items c.reach_of-reach.result c.args.i c.in_ok-push.ensures.items c.requires.upto.reach_count c.requires.upto.reaches_are
-    (subst (λ (row : List ℤ). IsReachOr c.args.listed.now.rows row c.reach_of-reach.result) c.row.ensures.row c.reach_of-reach.ensures.reach) in
-    let lines : 8 * length c.deref-2.result.now ≡ 16 * width c.args.system.now.equations = omega (arith, ap length c.deref-2.ensures.value, asked.bars_count) in
+    (subst (λ (row : List ℤ). IsReachOr c.args.listed.now.rows row c.reach_of-reach.result) c.row-row.ensures.row c.reach_of-reach.ensures.reach) in
+    let lines : 8 * length c.deref-4.result.now ≡ 16 * width c.args.system.now.equations = omega (arith, ap length c.deref-4.ensures.value, asked.bars_count) in
     let sized : OnOk c.push-2.result (AreSized (16 * width c.args.system.now.equations) c.push-2.new.self.groups.items) = subst (λ (n : ℕ). OnOk c.push-2.result (AreSized n c.push-2.new.self.groups.items)) lines c.push-2.ensures.sized in
-    let bars : AreTrue (BarsLine c.args.system.now.equations c.args.listed.now.rows (row_at c.args.listed.now.rows c.args.i)) true c.deref-2.result.now =
-    subst (λ (l : List ℕ). AreTrue (BarsLine c.args.system.now.equations c.args.listed.now.rows (row_at c.args.listed.now.rows c.args.i)) true l) (sym c.deref-2.ensures.value) asked.bars in
-    let reached : AreTrue (ReachesLine (row_at c.args.listed.now.rows c.args.i)) false c.deref-3.result.now =
-    subst (λ (l : List ℕ). AreTrue (ReachesLine (row_at c.args.listed.now.rows c.args.i)) false l) (sym c.deref-3.ensures.value) asked.reached in
+    let bars : AreTrue (BarsLine c.args.system.now.equations c.args.listed.now.rows (row_at c.args.listed.now.rows c.args.i)) true c.deref-4.result.now =
+    subst (λ (l : List ℕ). AreTrue (BarsLine c.args.system.now.equations c.args.listed.now.rows (row_at c.args.listed.now.rows c.args.i)) true l) (sym c.deref-4.ensures.value) asked.bars in
+    let reached : AreTrue (ReachesLine (row_at c.args.listed.now.rows c.args.i)) false c.deref-5.result.now =
+    subst (λ (l : List ℕ). AreTrue (ReachesLine (row_at c.args.listed.now.rows c.args.i)) false l) (sym c.deref-5.ensures.value) asked.reached in
+    let norm : c.norm_of-own.result ≡ stage_norm (row_at c.args.listed.now.rows c.args.i) = c.norm_of-own.ensures ∙ ap stage_norm c.row-row.ensures.row in
     let groups : OnOk c.push-2.result (AreGroups c.args.system.now.equations c.args.listed.now.rows c.push-2.new.self.ids.items c.push-2.new.self.groups.items) =
-    on_ok_groups c.args.system.now.equations c.args.listed.now.rows c.args.i c.deref-2.result.now c.deref-3.result.now c.args.self.now.minus.ids.items c.push-2.new.self.ids.items c.args.self.now.minus.groups.items c.push-2.new.self.groups.items c.push-2.result
-    c.push-2.ensures.groups c.requires.upto.minus_table.groups bars reached in
+    on_ok_groups c.args.system.now.equations c.args.listed.now.rows c.args.i c.norm_of-own.result c.deref-4.result.now c.deref-5.result.now c.args.self.now.minus.ids.items c.push-2.new.self.ids.items c.args.self.now.minus.groups.items c.push-2.new.self.groups.items c.push-2.result
+    c.push-2.ensures.groups c.requires.upto.minus_table.groups norm bars reached in
     let table : OnOk c.push-2.result (IsTable c.args.system.now.equations c.args.listed.now.rows has_negative_last (c.args.i + 1) c.push-2.new.self) =
     on_ok_table c.args.system.now.equations c.args.listed.now.rows has_negative_last c.args.i c.args.self.now.minus c.push-2.new.self c.push-2.result c.requires.row c.requires.sign c.requires.upto.minus_table
     c.push-2.ensures.ids c.push-2.ensures.count sized groups in

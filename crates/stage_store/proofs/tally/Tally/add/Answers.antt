@@ -1,8 +1,11 @@
 use Rattle.std.proofs.Common.{◌≡◌, ◌∙◌, ◌+◌, ◌*◌, ◌<◌, ◌≤◌, ℕ, length, ap, ap₂, arith, inl, inr}
 use Rattle.stage_store.specs.Classes.{norm_at, class_norm}
 use Rattle.stage_store.proofs.Classes.{class_at, class_ids}
-use Rattle.stage_store.proofs.Tallies.{gained_none, gained_more, gained_all, all_beyond}
+use Rattle.stage_store.proofs.Tallies.{gained_without_rows, gained_none, gained_more, gained_all, all_beyond}
 use Rattle.stage_store.proofs.tally.Tally.add.Goals as goal
+
+pub returns-then-firsts-eq0-clause-gained : goal.returns-then-firsts-eq0-clause-gained
+returns-then-firsts-eq0-clause-gained c = gained_without_rows c.args.self.now c.args.others.now c.args.class.now (omega (arith, c.in-Ok.ensures.1, ap length c.ids.ensures, c.if-firsts-eq0.true))
 
 pub loop-k-init : goal.loop-k-init
 loop-k-init c = record {

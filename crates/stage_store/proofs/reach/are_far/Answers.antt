@@ -1,6 +1,6 @@
 use Rattle.std.proofs.Common.{◌∙◌, arith}
 use Rattle.stage_store.proofs.Reaches.{far_rows}
-use Rattle.stage_store.proofs.sieve.are_far.Goals as goal
+use Rattle.stage_store.proofs.reach.are_far.Goals as goal
 
 pub returns : goal.returns
 returns c = λ S t.
