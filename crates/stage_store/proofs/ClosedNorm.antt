@@ -32,7 +32,7 @@ use Rattle.stage_store.proofs.StageFields.{norms_within}
 use Rattle.stage_store.proofs.Classes.{get_or-default}
 use Rattle.stage_store.proofs.Publish.{more_classes}
 use Rattle.stage_store.proofs.Closing.{after, next_stage}
-use Rattle.stage_store.proofs.WaitingFront.{ascends_drop, waits_at_least}
+use Rattle.stage_store.proofs.FirstWaiting.{ascends_drop, waits_at_least}
 use Rattle.stage_store.proofs.Used.{used_to_next, pairs_to_next, pairs_after}
 use Rattle.stage_store.proofs.Numbering.{numbered}
 

@@ -13,7 +13,7 @@ pub mod LineBits
 pub mod Levels
 pub mod Closing
 pub mod Used
-pub mod WaitingFront
+pub mod FirstWaiting
 pub mod ClosedNorm
 pub mod UnitVectors
 pub mod FirstRows

@@ -453,7 +453,8 @@ fn sift_row_anew(
     requires place { k < length plus.now.ids.items }
     ensures count { length shelves.new.shelves.items ≡ 256 }
     ensures stay { Stay shelves.old shelves.new }
-    ensures sifted { OnOk result (AreSiftedBy true system.now.equations listed.now.rows shelves.new (slice_index_or plus.now.ids.items k 0) minus.now.ids.items) }
+    ensures sifted { OnOk result
+        (AreSiftedBy true system.now.equations listed.now.rows shelves.new (slice_index_or plus.now.ids.items k 0) minus.now.ids.items) }
 {
     let group = &plus.groups[k / 64];
     group.reached.take_marked(false, k % 64, bar_reads)?;

@@ -7,7 +7,7 @@ use Rattle.stage_store.specs.Merge.{merged}
 use Rattle.stage_store.specs.Classes.{places, sign_test}
 use Rattle.stage_store.specs.Stage.{IsStage, waiting_of, listed_of, width_of}
 use Rattle.stage_store.proofs.StageFields.{stage_of}
-use Rattle.stage_store.proofs.WaitingFront.{IsFront, front_of, grown_is, new_norms, still_is, front_entries, sums_entries}
+use Rattle.stage_store.proofs.FirstWaiting.{IsFront, front_of, grown_is, new_norms, still_is, front_entries, sums_entries}
 use Rattle.stage_store.proofs.stage.Stage.growth.Goals as goal
 
 pub merged_rows-requires-clause-waits : goal.merged_rows-requires-clause-waits
