@@ -1,5 +1,5 @@
 -- The listed rows that are enough to look for one below a sum of the next norm.
-use Rattle.std.proofs.Common.{◌≡◌, ℕ, ◌+◌, ◌*◌, ◌/◌, ◌≤◌, ◌<◌, List, [], length, get_or, take, ap, sym, ◌∙◌, subst, arith, inl, inr, get_or-take}
+use Rattle.std.proofs.Common.{◌≡◌, ℕ, ◌+◌, ◌/◌, ◌≤◌, ◌<◌, List, [], length, get_or, take, ap, sym, ◌∙◌, subst, arith, inl, inr, get_or-take}
 use Rattle.std.specs.Prelude.{ℤ}
 use Rattle.std.specs.List.{Contains}
 use Rattle.std.proofs.lemmas.Bool.{cases_lt}
@@ -7,7 +7,7 @@ use Rattle.std.proofs.lemmas.List.{take_all, length-take-le, get_or_default}
 use Rattle.int_vector.specs.Vectors.{◌⊑◌}
 use Rattle.int_vector.specs.Operations.{add}
 use Rattle.lift_core.specs.Systems.{LinearSystem}
-use Rattle.lift_core.specs.Stages.{stage_norm, IsPair, IsNextNorm, IsStageVector}
+use Rattle.lift_core.specs.Stages.{stage_norm, IsPair, IsNextNorm}
 use Rattle.lift_core.specs.PairSums.{HasSum, IsIrreducible}
 use Rattle.lift_core.specs.Halves.{IsReducibleByHalf}
 use Rattle.lift_core.proofs.Growth.{stage_sum}

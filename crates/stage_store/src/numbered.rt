@@ -273,7 +273,16 @@ pub fn take_opened(
     let mut done = first;
     let mut k = open_from(pairs, first);
     while k < pairs.len() && pairs[k].number < to {
-        done = take_open(stage, opened.norm, pairs[k], opened.half, done, hints, sum, rows);
+        done = take_open(
+            stage,
+            opened.norm,
+            pairs[k],
+            opened.half,
+            done,
+            hints,
+            sum,
+            rows,
+        );
         k += 1;
     }
 }
