@@ -90,35 +90,6 @@ pub value_after : (S : ToolSystem) (k d b e waited taken : ℕ) (listed new grow
     → value_of S k e b grown (drop (waited + taken) waiting) ≡ after (value_of S k d b listed (drop waited waiting)) e (listed ++ new) (drop taken (drop waited waiting))
 value_after S k d b e waited taken listed new grown waiting is = ap₂ (λ (l w : List (List ℤ)). value_of S k e b l w) is (sym (drop-drop taken waited waiting))
 
-pub holds_after : (S : ToolSystem) (k d b e limit waited used : ℕ) (listed grown : PoolValue) (tree tree' : TreeValue) (waiting : PoolValue) (plus minus plus' minus' : List ClassValue) (sieve : Sieve) (following following' : Following) (tally mid tally' : Tally) (ahead ahead' : Opened) (g : Growth)
-    → Holds (value_of S k d b listed.rows (drop waited waiting.rows)) listed tree waiting waited used plus minus sieve following tally ahead
-    → IsNextNorm listed.rows (drop waited waiting.rows) d e → e ≤ largest → limit ≤ 2 ^ 21 → IsGrowth (value_of S k d b listed.rows (drop waited waiting.rows)) e limit g
-    → grown.width ≡ listed.width → grown.rows ≡ listed.rows ++ g.rows.rows → HoldsRows tree' grown → plus' ≡ with_class g.plus.norm g.plus.ids plus → minus' ≡ with_class g.minus.norm g.minus.ids minus → following'.known ≡ false → HasGained tally mid minus g.plus → HasGained mid tally' plus' g.minus → IsInRange tally' → ahead'.known ≡ false
-    → Holds (value_of S k e b grown.rows (drop (waited + g.taken) waiting.rows)) grown tree' waiting (waited + g.taken) (used + g.pairs) plus' minus' sieve following' tally' ahead'
-holds_after S k d b e limit waited used listed grown tree tree' waiting plus minus plus' minus' sieve following following' tally mid tally' ahead ahead' g h next small most growth w is i p m f o q r a =
-    let s : StageValue = value_of S k d b listed.rows (drop waited waiting.rows) in
-    let t : value_of S k e b grown.rows (drop (waited + g.taken) waiting.rows) ≡ after (value_of S k d b listed.rows (drop waited waiting.rows)) e (listed.rows ++ g.rows.rows) (drop g.taken (drop waited waiting.rows)) = value_after S k d b e waited g.taken listed.rows g.rows.rows grown.rows waiting.rows is in
-    record {
-      stage = subst (λ (v : StageValue). IsStage v) (sym t) (stage_after (value_of S k d b listed.rows (drop waited waiting.rows)) e limit g h.stage next small most growth);
-      listed_width = w ∙ h.listed_width;
-      indexed = i;
-      waiting_width = h.waiting_width;
-      waited_inside = omega (arith, growth.taken_inside, length-drop waited waiting.rows, h.waited_inside);
-      waiting_most = h.waiting_most;
-      used_is = omega (arith, h.used_is, used_after (value_of S k d b listed.rows (drop waited waiting.rows)) e limit g h.stage next small most growth, ap used_of t);
-      plus_classes = subst₂ (λ (l : List (List ℤ)) (cs : List ClassValue). AreClasses l has_positive_last cs) (sym is) (sym p) (plus_after (value_of S k d b listed.rows (drop waited waiting.rows)) e limit g h.stage next small most growth plus h.plus_classes);
-      minus_classes = subst₂ (λ (l : List (List ℤ)) (cs : List ClassValue). AreClasses l has_negative_last cs) (sym is) (sym m) (minus_after (value_of S k d b listed.rows (drop waited waiting.rows)) e limit g h.stage next small most growth minus h.minus_classes);
-      plus_ids = ids_after has_positive_last (length listed.rows) g.rows.rows plus plus' g.plus.norm g.plus.ids h.plus_ids growth.plus_ids p;
-      minus_ids = ids_after has_negative_last (length listed.rows) g.rows.rows minus minus' g.minus.norm g.minus.ids h.minus_ids growth.minus_ids m;
-      sieve_is = subst (λ (l : List (List ℤ)). IsSieve S.equations l e sieve) (sym is) (sieve_after S.equations listed.rows g.rows.rows d e sieve (omega (arith, next.above)) h.sieve_is);
-      following_is = λ t. absurd (unknown following'.known f t);
-      tally_is = subst₂ (λ (cs ds : List ClassValue). IsTally cs ds tally') (sym p) (sym m)
-          (tally_grown plus minus g.plus g.minus tally mid tally' (omega (arith, next.above, growth.minus_norm))
-          (positive_norms (listed.rows ++ g.rows.rows) (with_class g.plus.norm g.plus.ids plus) (plus_after (value_of S k d b listed.rows (drop waited waiting.rows)) e limit g h.stage next small most growth plus h.plus_classes).each)
-          h.tally_is o (subst (λ (cs : List ClassValue). HasGained mid tally' cs g.minus) p q) r);
-      ahead_is = λ t. absurd (unknown ahead'.known a t);
-    }
-
 -- ---- where the lists were the defined ones, they are
 pub defined_after : (s t : StageValue) (e : ℕ) → IsNextNorm s.listed s.waiting s.norm e → IsPublished s e t → IsDefined s → IsDefined t
 defined_after s t e next p h =
@@ -162,3 +133,38 @@ further_after s t e next p = elim next.occurs [
       let c : Contains (pairs_of s.listed e) (f.0, f.1) = (numbered s.listed e f.0 f.1).1 (f.2, f.3) in
       inr (omega (arith, c.1, p.used, used_to_next s.listed s.waiting s.norm e (used_of s) next))
 ]
+
+-- ---- the fields after a norm is closed
+pub holds_after : (S : ToolSystem) (k d b e limit waited used : ℕ) (listed grown : PoolValue) (tree tree' : TreeValue) (waiting : PoolValue) (plus minus plus' minus' : List ClassValue) (sieve : Sieve) (following following' : Following) (tally mid tally' : Tally) (ahead ahead' : Opened) (g : Growth)
+    → Holds (value_of S k d b listed.rows (drop waited waiting.rows)) listed tree waiting waited used plus minus sieve following tally ahead
+    → IsNextNorm listed.rows (drop waited waiting.rows) d e → e ≤ largest → limit ≤ 2 ^ 21 → IsGrowth (value_of S k d b listed.rows (drop waited waiting.rows)) e limit g
+    → grown.width ≡ listed.width → grown.rows ≡ listed.rows ++ g.rows.rows → HoldsRows tree' grown → plus' ≡ with_class g.plus.norm g.plus.ids plus → minus' ≡ with_class g.minus.norm g.minus.ids minus → following'.known ≡ false → HasGained tally mid minus g.plus → HasGained mid tally' plus' g.minus → IsInRange tally' → ahead'.known ≡ false → ahead'.defined ≡ ahead.defined
+    → Holds (value_of S k e b grown.rows (drop (waited + g.taken) waiting.rows)) grown tree' waiting (waited + g.taken) (used + g.pairs) plus' minus' sieve following' tally' ahead'
+holds_after S k d b e limit waited used listed grown tree tree' waiting plus minus plus' minus' sieve following following' tally mid tally' ahead ahead' g h next small most growth w is i p m f o q r a same =
+    let s : StageValue = value_of S k d b listed.rows (drop waited waiting.rows) in
+    let t : value_of S k e b grown.rows (drop (waited + g.taken) waiting.rows) ≡ after (value_of S k d b listed.rows (drop waited waiting.rows)) e (listed.rows ++ g.rows.rows) (drop g.taken (drop waited waiting.rows)) = value_after S k d b e waited g.taken listed.rows g.rows.rows grown.rows waiting.rows is in
+    record {
+      stage = subst (λ (v : StageValue). IsStage v) (sym t) (stage_after (value_of S k d b listed.rows (drop waited waiting.rows)) e limit g h.stage next small most growth);
+      listed_width = w ∙ h.listed_width;
+      indexed = i;
+      waiting_width = h.waiting_width;
+      waited_inside = omega (arith, growth.taken_inside, length-drop waited waiting.rows, h.waited_inside);
+      waiting_most = h.waiting_most;
+      used_is = omega (arith, h.used_is, used_after (value_of S k d b listed.rows (drop waited waiting.rows)) e limit g h.stage next small most growth, ap used_of t);
+      plus_classes = subst₂ (λ (l : List (List ℤ)) (cs : List ClassValue). AreClasses l has_positive_last cs) (sym is) (sym p) (plus_after (value_of S k d b listed.rows (drop waited waiting.rows)) e limit g h.stage next small most growth plus h.plus_classes);
+      minus_classes = subst₂ (λ (l : List (List ℤ)) (cs : List ClassValue). AreClasses l has_negative_last cs) (sym is) (sym m) (minus_after (value_of S k d b listed.rows (drop waited waiting.rows)) e limit g h.stage next small most growth minus h.minus_classes);
+      plus_ids = ids_after has_positive_last (length listed.rows) g.rows.rows plus plus' g.plus.norm g.plus.ids h.plus_ids growth.plus_ids p;
+      minus_ids = ids_after has_negative_last (length listed.rows) g.rows.rows minus minus' g.minus.norm g.minus.ids h.minus_ids growth.minus_ids m;
+      sieve_is = subst (λ (l : List (List ℤ)). IsSieve S.equations l e sieve) (sym is) (sieve_after S.equations listed.rows g.rows.rows d e sieve (omega (arith, next.above)) h.sieve_is);
+      following_is = λ t. absurd (unknown following'.known f t);
+      tally_is = subst₂ (λ (cs ds : List ClassValue). IsTally cs ds tally') (sym p) (sym m)
+          (tally_grown plus minus g.plus g.minus tally mid tally' (omega (arith, next.above, growth.minus_norm))
+          (positive_norms (listed.rows ++ g.rows.rows) (with_class g.plus.norm g.plus.ids plus) (plus_after (value_of S k d b listed.rows (drop waited waiting.rows)) e limit g h.stage next small most growth plus h.plus_classes).each)
+          h.tally_is o (subst (λ (cs : List ClassValue). HasGained mid tally' cs g.minus) p q) r);
+      ahead_is = record {
+        defined = λ x. defined_after (value_of S k d b listed.rows (drop waited waiting.rows)) (value_of S k e b grown.rows (drop (waited + g.taken) waiting.rows)) e next
+            (published_is (value_of S k d b listed.rows (drop waited waiting.rows)) e limit g h.stage next small most growth (value_of S k e b grown.rows (drop (waited + g.taken) waiting.rows)) t) (h.ahead_is.defined (sym same ∙ x));
+        opens = λ x. absurd (unknown ahead'.known a x);
+        enough = λ x. absurd (unknown ahead'.known a x);
+      };
+    }

@@ -1,5 +1,5 @@
 -- The tree over the listed rows: it holds them, and what it does not find is not there.
-use Rattle.std.proofs.Common.{◌≡◌, ℕ, zero, suc, ◌+◌, ◌≤◌, ◌<◌, List, [], ◌∷◌, ◌++◌, length, get_or, take, refl, ap, sym, ◌∙◌, subst, arith, Option, Some, None}
+use Rattle.std.proofs.Common.{◌≡◌, ℕ, zero, suc, ◌+◌, ◌≤◌, ◌<◌, List, [], ◌∷◌, ◌++◌, length, get_or, take, refl, ap, sym, ◌∙◌, subst, arith, Option, Some, None, length-take, get_or-take}
 use Rattle.std.specs.Prelude.{ℤ, map, MatchOption}
 use Rattle.std.specs.List.{AllByRecursion, Contains, range_with_len}
 use Rattle.std.proofs.lemmas.List.{get_or_default}
@@ -8,7 +8,7 @@ use Rattle.int_vector.specs.Vectors.{◌⊑◌}
 use Rattle.lift_core.specs.PairSums.{IsIrreducible}
 use Rattle.row_pool.specs.declared.RowId.{RowId}
 use Rattle.row_pool.specs.Rows.{PoolValue}
-use Rattle.reduce_tree.specs.Tree.{TreeValue, Fits, StandsAt, places_of, AreNotBelow}
+use Rattle.reduce_tree.specs.Tree.{TreeValue, Fits, StandsAt, places_of, AreNotBelow, AreNotBelowBefore}
 use Rattle.reduce_tree.specs.declared.tree.Filed.{Filed}
 use Rattle.reduce_tree.proofs.Pools.{fits_cut}
 use Rattle.stage_store.specs.Indexed.{HoldsRows}
@@ -62,3 +62,16 @@ find_result (Some id) tree listed rows z h same found =
     let place : c.0 ≡ id.0 = omega (arith, get_or-range_with_len 0 (length listed.rows) c.0 id.0 (omega (arith, c.1, length-range_with_len 0 (length listed.rows))), c.2) in
     let inside : id.0 < length listed.rows = omega (arith, place, c.1, length-range_with_len 0 (length listed.rows)) in
     subst (λ (r : List (List ℤ)). (id.0 < length r) × (get_or r id.0 [] ⊑ z)) same (inside, found.1)
+
+-- the same among the first rows, so many of them
+pub find_result_before : (result : Option RowId) (tree : TreeValue) (listed : PoolValue) (rows : List (List ℤ)) (z : List ℤ) (end : ℕ) → HoldsRows tree listed → listed.rows ≡ rows
+    → MatchOption result (AreNotBelowBefore end (places_of tree) listed.rows z) (λ id. Contains (places_of tree) id.0 × (id.0 < end) × (get_or listed.rows id.0 [] ⊑ z))
+    → MatchOption result (IsIrreducible (take end rows) z) (λ id. (id.0 < length rows) × (get_or rows id.0 [] ⊑ z))
+find_result_before None tree listed rows z end h same none =
+    subst (λ (r : List (List ℤ)). IsIrreducible (take end r) z) same (λ u c below.
+    let first : c.0 < end = omega (arith, c.1, length-take end listed.rows) in
+    let inside : c.0 < length listed.rows = omega (arith, c.1, length-take end listed.rows) in
+    let there : get_or listed.rows c.0 [] ≡ u = sym (get_or-take end listed.rows c.0 [] first) ∙ row_there (take end listed.rows) u c in
+    none c.0 (subst (λ p. Contains p c.0) (sym h.places) (c.0, omega (arith, inside, length-range_with_len 0 (length listed.rows)), get_or-range_with_len 0 (length listed.rows) c.0 c.0 inside ∙ omega arith)) first
+    (subst (λ (v : List ℤ). v ⊑ z) (sym there) below))
+find_result_before (Some id) tree listed rows z end h same found = find_result (Some id) tree listed rows z h same (found.0, found.2)

@@ -18,7 +18,9 @@ use Rattle.stage_store.specs.declared.shelves.Shelves.{Shelves}
 use Rattle.stage_store.specs.Sieve.{HasNoNewSum, IsGroup, IsTable, AreSifted, IsSieveTo, IsSieve, pair_by}
 use Rattle.stage_store.specs.Reaches.{IsReachOr}
 use Rattle.std.proofs.Common.{◌/◌, ◌%◌}
-use Rattle.stage_store.specs.Opened.{AreAscending, AscendWithin}
+use Rattle.stage_store.specs.Stage.{StageValue}
+use Rattle.stage_store.specs.Opened.{AreAscending, AscendWithin, IsAhead}
+use Rattle.stage_store.specs.declared.opened.Opened.{Opened}
 use Rattle.stage_store.proofs.Classes.{each_at}
 use Rattle.stage_store.proofs.Publish.{each_snoc}
 use Rattle.stage_store.proofs.Tables.{inside_table}
@@ -124,3 +126,7 @@ sieve_after S listed new d e v up h =
 -- a flag that is not set
 pub unknown : (b : Bool) → b ≡ false → IsTrue b → ⊥
 unknown b e t = let f : true ≡ false = sym t ∙ e in cc
+
+-- nothing is known ahead
+pub nothing_ahead : (s : StageValue) (o : Opened) → (o.known ≡ false) × (o.defined ≡ false) → IsAhead s o
+nothing_ahead s o none = record { defined = λ t. absurd (unknown o.defined none.1 t); opens = λ t. absurd (unknown o.known none.0 t); enough = λ t. absurd (unknown o.known none.0 t) }

@@ -23,7 +23,7 @@ use Rattle.stage_store.specs.declared.tally.Tally.{Tally}
 use Rattle.stage_store.specs.Tallies.{IsInRange}
 use Rattle.stage_store.proofs.Tallies.{tally_empty}
 use Rattle.stage_store.proofs.Sifting.{new_sieve}
-use Rattle.stage_store.proofs.MoreRows.{unknown}
+use Rattle.stage_store.proofs.MoreRows.{unknown, nothing_ahead}
 
 pub same_stage : (s : StageValue)
     → stage_of s.system s.number s.norm (used_of s) s.listed s.waiting ≡ s
@@ -70,7 +70,7 @@ module _ (S : ToolSystem) (k d used pairs : ℕ) (tree : TreeValue) (plus minus 
       → AreClasses listed.rows has_positive_last plus
       → AreClasses listed.rows has_negative_last minus
       → AscendWithin plus → AscendWithin minus → IsNewSieve sieve
-      → following.known ≡ false → IsInRange tally → tally.span ≡ 0 → ahead.known ≡ false
+      → following.known ≡ false → IsInRange tally → tally.span ≡ 0 → (ahead.known ≡ false) × (ahead.defined ≡ false)
       → AreFields listed waiting
   fields_hold listed waiting stage wide wait is enough rows p m i j v f o z a = record {
     stage = subst IsStage (ap with_before (sym is)) stage;
@@ -87,7 +87,7 @@ module _ (S : ToolSystem) (k d used pairs : ℕ) (tree : TreeValue) (plus minus 
     sieve_is = new_sieve S.equations listed.rows d sieve v;
     following_is = λ t. absurd (unknown following.known f t);
     tally_is = tally_empty plus minus tally o z;
-    ahead_is = λ t. absurd (unknown ahead.known a t);
+    ahead_is = nothing_ahead (with_before pairs) ahead a;
   }
     where
       with_before : ℕ → StageValue

@@ -29,7 +29,7 @@ use Rattle.stage_store.specs.Opened.{AscendWithin}
 use Rattle.stage_store.specs.declared.sieve.Sieve.{Sieve}
 use Rattle.std.specs.Prelude.{false}
 use Rattle.stage_store.specs.declared.opened.Opened.{Opened}
-use Rattle.stage_store.proofs.MoreRows.{unknown}
+use Rattle.stage_store.proofs.MoreRows.{unknown, nothing_ahead}
 use Rattle.stage_store.specs.declared.stage.Following.{Following}
 use Rattle.stage_store.specs.declared.tally.Tally.{Tally}
 use Rattle.stage_store.specs.Tallies.{IsInRange}
@@ -91,7 +91,7 @@ module _ (S : ToolSystem) (k : ℕ) (solutions : List (List ℤ)) (solve : AllBy
 pub start_holds : (S : ToolSystem) (k used : ℕ) (solutions : List (List ℤ)) (listed : PoolValue) (tree : TreeValue) (waiting : PoolValue) (plus minus : List ClassValue) (sieve : Sieve) (following : Following) (tally : Tally) (ahead : Opened)
     → AllByRecursion (Solves S.equations (k - 1)) solutions → AllByRecursion (λ v. 0 < norm v) solutions → AllByRecursion (λ v. norm v ≤ largest) solutions
     → IsToolSystem S → 0 < k → k ≤ length S.equations.rows → used ≤ 2 ^ 62 + k * 2 ^ 42 → IsStrictlySortedBy solution_cmp solutions → length solutions ≤ 2 ^ 21
-    → listed.width ≡ width S.equations + 1 → listed.rows ≡ [] → tree.width ≡ width S.equations + 1 → tree.filed ≡ [] → AreExtended S k solutions waiting → plus ≡ [] → minus ≡ [] → IsNewSieve sieve → following.known ≡ false → IsInRange tally → tally.span ≡ 0 → ahead.known ≡ false
+    → listed.width ≡ width S.equations + 1 → listed.rows ≡ [] → tree.width ≡ width S.equations + 1 → tree.filed ≡ [] → AreExtended S k solutions waiting → plus ≡ [] → minus ≡ [] → IsNewSieve sieve → following.known ≡ false → IsInRange tally → tally.span ≡ 0 → (ahead.known ≡ false) × (ahead.defined ≡ false)
     → Holds (value_of S k 0 used listed.rows waiting.rows) listed tree waiting 0 used plus minus sieve following tally ahead
 start_holds S k used solutions listed tree waiting plus minus sieve following tally ahead solve positive small kept from to most order count w nothing tw none e p m v f o z a =
     let is : value_of S k 0 used [] (map (extend (row S.equations k)) solutions) ≡ value_of S k 0 used listed.rows waiting.rows = ap₂ (λ (l r : List (List ℤ)). value_of S k 0 used l r) (sym nothing) (sym e.rows_are) in
@@ -110,7 +110,7 @@ start_holds S k used solutions listed tree waiting plus minus sieve following ta
       sieve_is = new_sieve S.equations listed.rows 0 sieve v;
       following_is = λ t. absurd (unknown following.known f t);
       tally_is = tally_empty plus minus tally o z;
-      ahead_is = λ t. absurd (unknown ahead.known a t);
+      ahead_is = nothing_ahead (value_of S k 0 used listed.rows waiting.rows) ahead a;
     }
 
 -- ---- the defined lists

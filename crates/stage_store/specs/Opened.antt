@@ -2,9 +2,12 @@
 use Rattle.std.specs.Prelude.{◌≡◌, ℕ, ◌+◌, ◌-◌, ◌*◌, ◌<◌, ◌≤◌, List, [], ℤ, IsTrue, length, take, slice_index_or}
 use Rattle.std.specs.List.{AllByRecursion, Contains, sum_by}
 use Rattle.std.specs.List.Sorted.{IsNonDecreasingBy}
-use Rattle.stage_store.specs.Stage.{StageValue}
+use Rattle.int_vector.specs.Operations.{add}
+use Rattle.lift_core.specs.Stages.{stage_norm, IsPair}
+use Rattle.lift_core.specs.PairSums.{HasSum}
+use Rattle.stage_store.specs.Stage.{StageValue, IsDefined}
 use Rattle.stage_store.specs.Classes.{ClassValue, IsPairAt, pairs_of, part_size, ids_of, ids_at, norm_at}
-use Rattle.stage_store.specs.Found.{IsSumOf}
+use Rattle.stage_store.specs.Found.{IsSumOf, IsReduced}
 use Rattle.stage_store.specs.Numbered.{pair_at}
 use Rattle.stage_store.specs.declared.sieve.KeptPair.{KeptPair}
 use Rattle.stage_store.specs.declared.opened.OpenPair.{OpenPair}
@@ -84,6 +87,13 @@ pub record IsOpen (s : StageValue) (e : ℕ) (opens : List OpenPair) : Type 0 wh
   pub whole : (p : ℕ) (z : List ℤ) → p < length (pairs_of s.listed e) → IsSumOf s.system.equations s.listed (pair_at s e p).0 (pair_at s e p).1 z
       → (x : OpenPair) × Contains opens x × (x.number ≡ p)
 
--- what is said of a norm's open pairs holds, once they are known
-abbrev pub IsAhead : StageValue → Opened → Type 0
-IsAhead s o = IsTrue o.known → IsOpen s o.norm o.pairs.items
+-- where a listed row is below the sum of a pair of norm e, one of the first rows is, so many of them
+abbrev pub AreEnough : StageValue → ℕ → ℕ → Type 0
+AreEnough s e count = (f g : List ℤ) → IsPair s.listed f g → stage_norm f + stage_norm g ≡ e → HasSum s.system.equations f g
+    → IsReduced s.listed (add f g) → IsReduced (take count s.listed) (add f g)
+
+-- what is said of the lists holds, and what is said of a norm's open pairs, once they are known
+pub record IsAhead (s : StageValue) (o : Opened) : Type 0 where
+  pub defined : IsTrue o.defined → IsDefined s
+  pub opens : IsTrue o.known → IsOpen s o.norm o.pairs.items
+  pub enough : IsTrue o.known → AreEnough s o.norm o.half

@@ -66,6 +66,27 @@ fn extended_reach(listed: &Pool, first: u64, norm: u64, reach: Reach) -> Reach
     }
 }
 
+/// How many of the rows, the first ones, have at most a norm.
+pub fn rows_within(listed: &Pool, most: u64) -> u32
+    requires width { 0 < listed.now.width }
+    requires ascending { IsStrictlySortedBy norm_cmp listed.now.rows }
+    requires small { AllByRecursion (λ z. stage_norm z ≤ 9223372036854775807) listed.now.rows }
+    ensures within { result ≤ length listed.now.rows }
+    ensures behind { (k : ℕ) → result ≤ k → k < length listed.now.rows → most < stage_norm (slice_index_or listed.now.rows k []) }
+{
+    let mut low = 0;
+    let mut high = listed.len();
+    while low < high {
+        let middle = low + (high - low) / 2;
+        if norm_at(listed, middle) <= most {
+            low = middle + 1;
+        } else {
+            high = middle;
+        }
+    }
+    high
+}
+
 /// The norm of the row at a place.
 #[tactic(auto, using(crate::proofs::Signs::front_laws))]
 pub fn norm_at(listed: &Pool, place: u32) -> u64

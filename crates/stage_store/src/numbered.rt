@@ -7,11 +7,11 @@ ghost use Rattle.lift_core.specs.ToolSystems.{width};
 ghost use Rattle.stage_store.specs.Classes.{pairs_of, IsPairAt};
 ghost use Rattle.stage_store.specs.Found.{IsReduced};
 ghost use Rattle.stage_store.specs.Numbered.{GainsNumbered, HasNoneBetween};
-ghost use Rattle.stage_store.specs.Opened.{IsOpen, open_number};
+ghost use Rattle.stage_store.specs.Opened.{AreEnough, IsOpen, open_number};
 
 use crate::opened::{OpenPair, Opened};
 use crate::stage::Stage;
-use int_vector::{Visits, below, same};
+use int_vector::{below, same};
 use row_pool::{Pool, RowId};
 use std::alloc::{AllocError, Global};
 
@@ -119,13 +119,15 @@ fn place_below(places: &[u32], stage: &Stage, sum: &[i64]) -> Option<usize>
     None
 }
 
-/// Takes in the sum of the pair with a number, where it has one that is irreducible. The pair is that of two places.
+/// Takes in the sum of the pair with a number, where it has one that is irreducible. The pair is that of two places, and the
+/// first `half` listed rows are enough to look for one below the sum.
 fn take_places(
     stage: &Stage,
     norm: u64,
     p: u64,
     f: RowId,
     g: RowId,
+    half: u32,
     hints: &mut Hints,
     sum: &mut [i64],
     rows: &mut Pool,
@@ -133,6 +135,7 @@ fn take_places(
     requires small { norm ≤ 9223372036854775807 }
     requires inside { p < length (pairs_of stage.now.listed norm) }
     requires at { IsPairAt stage.now.listed norm p f.0 g.0 }
+    requires enough { AreEnough stage.now norm half }
     requires sum { length sum.old ≡ width stage.now.system.equations + 1 }
     requires width { rows.old.width ≡ width stage.now.system.equations + 1 }
     requires room { 1 ≤ rows.old.spare }
@@ -152,7 +155,7 @@ fn take_places(
     if hints.is_reduced(stage, sum) {
         return;
     }
-    if let Some(id) = stage.find_below(sum, &mut Visits { count: 0 }) {
+    if let Some(id) = stage.find_before(sum, half) {
         hints.remember(id);
         return;
     }
@@ -174,7 +177,7 @@ fn take_pair(stage: &Stage, norm: u64, p: u64, hints: &mut Hints, sum: &mut [i64
     ensures gains { GainsNumbered stage.now norm p (p + 1) rows.old.rows rows.new.rows }
 {
     let (f, g) = stage.pair(norm, p);
-    take_places(stage, norm, p, f, g, hints, sum, rows);
+    take_places(stage, norm, p, f, g, stage.len(), hints, sum, rows);
 }
 
 /// Takes in the sum of an open pair, unless that of its number was taken in. Answers the number up to which all are.
@@ -182,6 +185,7 @@ fn take_open(
     stage: &Stage,
     norm: u64,
     pair: OpenPair,
+    half: u32,
     done: u64,
     hints: &mut Hints,
     sum: &mut [i64],
@@ -191,6 +195,7 @@ fn take_open(
     requires inside { pair.number < length (pairs_of stage.now.listed norm) }
     requires few { length (pairs_of stage.now.listed norm) ≤ 2 ^ 42 }
     requires at { IsPairAt stage.now.listed norm pair.number pair.first pair.second }
+    requires enough { AreEnough stage.now norm half }
     requires none { HasNoneBetween stage.now norm done pair.number }
     requires sum { length sum.old ≡ width stage.now.system.equations + 1 }
     requires width { rows.old.width ≡ width stage.now.system.equations + 1 }
@@ -213,6 +218,7 @@ fn take_open(
         pair.number,
         RowId(pair.first),
         RowId(pair.second),
+        half,
         hints,
         sum,
         rows,
@@ -251,6 +257,7 @@ pub fn take_opened(
 )
     requires small { opened.now.norm ≤ 9223372036854775807 }
     requires opens { IsOpen stage.now opened.now.norm opened.now.pairs.items }
+    requires enough { AreEnough stage.now opened.now.norm opened.now.half }
     requires inside { first + count ≤ length (pairs_of stage.now.listed opened.now.norm) }
     requires few { length (pairs_of stage.now.listed opened.now.norm) ≤ 2 ^ 42 }
     requires sum { length sum.old ≡ width stage.now.system.equations + 1 }
@@ -266,7 +273,16 @@ pub fn take_opened(
     let mut done = first;
     let mut k = open_from(pairs, first);
     while k < pairs.len() && pairs[k].number < to {
-        done = take_open(stage, opened.norm, pairs[k], done, hints, sum, rows);
+        done = take_open(
+            stage,
+            opened.norm,
+            pairs[k],
+            opened.half,
+            done,
+            hints,
+            sum,
+            rows,
+        );
         k += 1;
     }
 }

@@ -23,23 +23,29 @@ pub struct OpenPair {
     pub second: u32,
 }
 
-/// The open pairs of a norm, in order of their numbers, once they are known.
+/// The open pairs of a norm, in order of their numbers, once they are known, and how many of the listed rows are enough to
+/// look for one below a sum of theirs: half of the norm is enough where the lists are known to be the defined ones.
 #[derive(Drop)]
 pub struct Opened {
     pub known: bool,
     pub norm: u64,
     pub pairs: Vec<OpenPair>,
+    pub half: u32,
+    /// Whether the lists are known to be the defined ones.
+    pub defined: bool,
 }
 
 impl Opened {
     /// They are not known yet.
     pub fn unknown(alloc: Global) -> Opened
-        ensures { result.known ≡ false }
+        ensures { (result.known ≡ false) × (result.defined ≡ false) }
     {
         Opened {
             known: false,
             norm: 0,
             pairs: Vec::new(alloc),
+            half: 0,
+            defined: false,
         }
     }
 }
@@ -235,5 +241,7 @@ pub fn open_norm(
         known: true,
         norm: e,
         pairs,
+        half: listed.len(),
+        defined: false,
     })
 }

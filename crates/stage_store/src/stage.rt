@@ -1,6 +1,6 @@
 //! The stage, what it is seen as, and the calls that take it from norm to norm and to the next stage.
 
-ghost use Rattle.std.specs.Prelude.{◌≡◌, ◌↔◌, ◌+◌, ◌-◌, ◌*◌, ◌<◌, ◌≤◌, ◌^◌, ℕ, ℤ, List, [], length, slice_index_or, All, MatchOption, IsTrue, IsFalse, false, ◌+ℤ◌, nat_abs, IfOk, OnOk};
+ghost use Rattle.std.specs.Prelude.{◌≡◌, ◌↔◌, ◌+◌, ◌-◌, ◌*◌, ◌<◌, ◌≤◌, ◌^◌, ℕ, ℤ, List, [], length, take, slice_index_or, All, MatchOption, IsTrue, IsFalse, false, ◌+ℤ◌, nat_abs, IfOk, OnOk};
 ghost use Rattle.std.specs.List.{AllZip, AllByRecursion};
 ghost use Rattle.std.specs.List.Sorted.{IsStrictlySortedBy};
 ghost use Rattle.int_vector.specs.Vectors.{◌⊑◌, norm};
@@ -16,6 +16,7 @@ ghost use Rattle.row_pool.specs.Rows.{InRange};
 ghost use Rattle.stage_store.specs.Stage.{StageValue, IsStage, IsDefined, used_of};
 ghost use Rattle.stage_store.specs.Classes.{pairs_of, IsPairAt};
 ghost use Rattle.stage_store.specs.Numbered.{GainsNumbered};
+ghost use Rattle.stage_store.specs.Opened.{AreEnough};
 ghost use Rattle.stage_store.specs.Least.{IsLeastAbove};
 ghost use Rattle.stage_store.specs.Answers.{IsNext, HasWaitingNorm, HasStagePair};
 ghost use Rattle.stage_store.specs.Lifted.{StartsOr, IsFirst, IsLift, IsLiftedDefined};
@@ -24,7 +25,7 @@ ghost use Rattle.stage_store.specs.Sound.{IsSound};
 ghost use Rattle.stage_store.specs.Published.{IsClosedNorm, IsPublish, IsFurther, GrowsOr};
 
 use crate::class::{Class, count_pairs, find_pair, lesser, pair_norm_above};
-use crate::counting::pairs_within;
+use crate::counting::{pairs_within, rows_within};
 use crate::growing::{add_class, class_of, list_rows, make_room, merged_rows, waits_up_to};
 use crate::lifting::{extended, kept_solutions, units};
 use crate::numbered::{Hints, gather_all, take_opened, take_range};
@@ -195,7 +196,7 @@ impl Stage {
         system.keeps();
         let solutions = units(alloc, &system)?;
         match Stage::start(alloc, system, 1, 0, solutions) {
-            Ok(lifted) => Ok(lifted),
+            Ok(lifted) => Ok(vouched(lifted, true)),
             Err(LiftEnd::Overflow { .. }) => unreachable!(),
             Err(LiftEnd::Memory) => Err(AllocError),
         }
@@ -303,13 +304,17 @@ impl Stage {
         ensures sound { IfOk result IsSound }
     {
         let solutions = kept_solutions(self.alloc, &self.listed)?;
-        Stage::start(
+        let defined = self.ahead.defined;
+        match Stage::start(
             self.alloc,
             self.system,
             self.number + 1,
             self.used,
             solutions,
-        )
+        ) {
+            Ok(lifted) => Ok(vouched(lifted, defined)),
+            Err(end) => Err(end),
+        }
     }
 
     /// What each stage keeps.
@@ -479,6 +484,38 @@ impl Stage {
             (λ i. (i.0 < length self.now.listed) × (slice_index_or self.now.listed i.0 [] ⊑ z.now)) }
     {
         self.tree.find_below(&self.listed, z, visits)
+    }
+
+    /// A row that is below z among the first listed ones, so many of them.
+    pub(crate) fn find_before(&self, z: &[i64], end: u32) -> Option<RowId>
+        requires { length z.now ≡ width self.now.system.equations + 1 }
+        ensures { MatchOption result (IsIrreducible (take end self.now.listed) z.now)
+            (λ i. (i.0 < length self.now.listed) × (slice_index_or self.now.listed i.0 [] ⊑ z.now)) }
+    {
+        self.tree
+            .find_below_before(&self.listed, z, end, &mut Visits { count: 0 })
+    }
+
+    /// How many of the listed rows, the first ones, are enough to look for one below a sum of norm e: those of at most half
+    /// of it, where the lists are known to be the defined ones.
+    fn enough_for(&self, e: u64) -> u32
+        requires { IsNextNorm self.now.listed self.now.waiting self.now.norm e }
+        ensures { AreEnough self.now e result }
+    {
+        if self.ahead.defined {
+            rows_within(&self.listed, e / 2)
+        } else {
+            self.listed.len()
+        }
+    }
+
+    /// The same stage, whose lists are known to be the defined ones where that is told.
+    fn vouched(mut self, defined: bool) -> Stage
+        requires { IsTrue defined → IsDefined self }
+        ensures { result ≡ self }
+    {
+        self.ahead.defined = defined;
+        self
     }
 
     /// The sum of a pair, where it has one.
@@ -660,16 +697,16 @@ impl Stage {
         )
     }
 
-    /// Opens a norm.
+    /// Opens the next norm.
     fn open(&mut self, e: u64) -> Result<(), AllocError>
-        requires { self.old.norm < e }
+        requires { IsNextNorm self.old.listed self.old.waiting self.old.norm e }
         ensures { self.new ≡ self.old }
     {
         if !self.sieve.knows(self.listed.len(), e) {
             return Ok(());
         }
         let width = self.system.width() as usize;
-        let opened = open_norm(
+        let mut opened = open_norm(
             self.alloc,
             &self.listed,
             width,
@@ -678,7 +715,20 @@ impl Stage {
             e,
             self.sieve.kept(e),
         )?;
+        opened.half = self.enough_for(e);
+        opened.defined = self.ahead.defined;
         self.ahead = opened;
         Ok(())
+    }
+}
+
+/// The same, whose lists are known to be the defined ones where that is told.
+fn vouched(lifted: Lifted, defined: bool) -> Lifted
+    requires { IsTrue defined → IsLiftedDefined lifted }
+    ensures { result ≡ lifted }
+{
+    match lifted {
+        Lifted::Next(stage) => Lifted::Next(stage.vouched(defined)),
+        Lifted::Last(finish) => Lifted::Last(finish),
     }
 }

@@ -1,6 +1,7 @@
 use Rattle.std.proofs.Common.{refl, arith}
 use Rattle.stage_store.proofs.NumberedSums.{reduced, found_before, pushed}
 use Rattle.stage_store.proofs.Numbering.{pair_placed}
+use Rattle.stage_store.proofs.Halves.{irreducible_by}
 use Rattle.stage_store.proofs.numbered.take_places.Goals as goal
 
 pub sum_into-requires-clause-pair : goal.sum_into-requires-clause-pair
@@ -16,7 +17,9 @@ returns-then-is_reduced-clause-gains c =
 pub returns-clause-gains : goal.returns-clause-gains
 returns-clause-gains c =
     pushed c.args.stage.now c.args.norm c.args.p c.args.f.0 c.args.g.0 c.requires.at c.args.rows.now.rows c.push-place.new.self.rows c.sum_into.new.out
-    (c.if-not-sum_into.ensures.sum.0 refl) (c.if-not-sum_into.ensures.is refl) c.in_default.ensures c.push-place.ensures.rows
+    (c.if-not-sum_into.ensures.sum.0 refl) (c.if-not-sum_into.ensures.is refl) (irreducible_by c.args.stage.now c.args.norm c.args.half _ _ c.sum_into.new.out c.requires.enough (pair_placed c.args.stage.now.listed c.args.norm c.args.p c.args.f.0 c.args.g.0 c.requires.inside c.requires.at).0
+    (pair_placed c.args.stage.now.listed c.args.norm c.args.p c.args.f.0 c.args.g.0 c.requires.inside c.requires.at).1 (c.if-not-sum_into.ensures.sum.0 refl) (c.if-not-sum_into.ensures.is refl) c.in_default.ensures)
+    c.push-place.ensures.rows
 
 pub returns-then-is_found-clause-gains : goal.returns-then-is_found-clause-gains
 returns-then-is_found-clause-gains c =

@@ -11,7 +11,12 @@ use Rattle.stage_store.proofs.stage.Stage.gather.Goals as goal
 pub take_opened-requires-clause-opens : goal.take_opened-requires-clause-opens
 take_opened-requires-clause-opens c =
     let a : IsAhead c.args.self.now c.self.inside.ahead = subst (λ (s : StageValue). IsAhead s c.self.inside.ahead) c.self.view_is c.self.invariant.ahead_is in
-    a c.if-self.true
+    a.opens c.if-self.true
+
+pub take_opened-requires-clause-enough : goal.take_opened-requires-clause-enough
+take_opened-requires-clause-enough c =
+    let a : IsAhead c.args.self.now c.self.inside.ahead = subst (λ (s : StageValue). IsAhead s c.self.inside.ahead) c.self.view_is c.self.invariant.ahead_is in
+    a.enough c.if-self.true
 
 pub returns-then-self-norm-clause-gains : goal.returns-then-self-norm-clause-gains
 returns-then-self-norm-clause-gains c = subst (λ (e : ℕ). GainsNumbered c.args.self.now e c.args.first (c.args.first + c.args.count) c.args.rows.now.rows c.take_opened.new.rows.rows) c.if-self-norm.true c.take_opened.ensures.gains

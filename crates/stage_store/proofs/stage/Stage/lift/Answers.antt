@@ -1,17 +1,18 @@
 use Rattle.std.proofs.Common.{◌≡◌, sym, ap, arith, subst, subst₂, ◌+◌, ◌-◌, ◌≤◌, ◌<◌, length}
-use Rattle.std.specs.Prelude.{List, ℤ, ℕ}
+use Rattle.std.specs.Prelude.{List, ℤ, ℕ, Ok, Err}
 use Rattle.std.specs.List.{AllByRecursion}
 use Rattle.std.specs.List.Sorted.{IsStrictlySortedBy}
 use Rattle.int_vector.specs.Vectors.{norm}
 use Rattle.lift_core.specs.Systems.{Solves}
 use Rattle.lift_core.specs.Ends.{solution_cmp}
-use Rattle.stage_store.specs.Stage.{StageValue, IsStage}
+use Rattle.stage_store.specs.Stage.{StageValue, IsStage, IsDefined}
+use Rattle.stage_store.specs.declared.stage.Lifted.{Lifted}
 use Rattle.stage_store.specs.Lifted.{IsLift, StartsOr}
 use Rattle.stage_store.proofs.StageFields.{stage_of}
 use Rattle.stage_store.proofs.Used.{pairs_within-most}
 use Rattle.stage_store.proofs.FirstRows.{kept_solve, kept_positive, kept_small, kept_ascend, kept_count}
 use Rattle.stage_store.proofs.Sound.{lift_is_sound}
-use Rattle.stage_store.proofs.Starting.{lift_result_defined}
+use Rattle.stage_store.proofs.Starting.{lift_defined, lift_result_defined}
 use Rattle.stage_store.proofs.stage.Stage.lift.Goals as goal
 
 pub start-requires-clause-used : goal.start-requires-clause-used
@@ -36,13 +37,27 @@ start-requires-clause-count c = omega (arith, ap (λ (l : List (List ℤ)). leng
 
 pub returns-clause-lifted : goal.returns-clause-lifted
 returns-clause-lifted c =
-    subst (λ (s : StageValue). IsLift s c.start.result) c.self.view_is
-    (subst₂ (λ (n : ℕ) (l : List (List ℤ)). StartsOr c.self.inside.system (c.self.inside.number + 1) n l c.start.result) c.self.invariant.used_is c.in_ok-solutions.ensures.rows c.start.ensures)
+    subst (λ (s : StageValue). IsLift s (Err c.in-Err.end)) c.self.view_is
+    (subst₂ (λ (n : ℕ) (l : List (List ℤ)). StartsOr c.self.inside.system (c.self.inside.number + 1) n l (Err c.in-Err.end)) c.self.invariant.used_is c.in_ok-solutions.ensures.rows c.in-Err.ensures)
 
-pub returns-clause-defined : goal.returns-clause-defined
-returns-clause-defined c = λ h.
+pub vouched-requires : goal.vouched-requires
+vouched-requires c = λ t.
     let s : IsStage c.args.self = stage_of c.self.view_is c.self.invariant.stage in
-    lift_result_defined c.args.self c.start.result s.number_from s.number_to c.requires.done (returns-clause-lifted c) h
+    let l : IsLift c.args.self (Ok c.in-Ok.lifted) =
+    subst (λ (s : StageValue). IsLift s (Ok c.in-Ok.lifted)) c.self.view_is
+    (subst₂ (λ (n : ℕ) (l : List (List ℤ)). StartsOr c.self.inside.system (c.self.inside.number + 1) n l (Ok c.in-Ok.lifted)) c.self.invariant.used_is c.in_ok-solutions.ensures.rows c.in-Ok.ensures) in
+    lift_defined c.args.self c.in-Ok.lifted s.number_from s.number_to c.requires.done (subst IsDefined c.self.view_is (c.self.invariant.ahead_is.defined t)) l
 
-pub returns-clause-sound : goal.returns-clause-sound
-returns-clause-sound c = lift_is_sound c.args.self c.start.result (stage_of c.self.view_is c.self.invariant.stage) (returns-clause-lifted c)
+pub returns-in-Ok-clause-lifted : goal.returns-in-Ok-clause-lifted
+returns-in-Ok-clause-lifted c =
+    subst (λ (l : Lifted). IsLift c.args.self (Ok l)) (sym c.vouched.ensures)
+    (subst (λ (s : StageValue). IsLift s (Ok c.in-Ok.lifted)) c.self.view_is
+    (subst₂ (λ (n : ℕ) (l : List (List ℤ)). StartsOr c.self.inside.system (c.self.inside.number + 1) n l (Ok c.in-Ok.lifted)) c.self.invariant.used_is c.in_ok-solutions.ensures.rows c.in-Ok.ensures))
+
+pub returns-in-Ok-clause-defined : goal.returns-in-Ok-clause-defined
+returns-in-Ok-clause-defined c = λ h.
+    let s : IsStage c.args.self = stage_of c.self.view_is c.self.invariant.stage in
+    lift_result_defined c.args.self (Ok c.vouched.result) s.number_from s.number_to c.requires.done (returns-in-Ok-clause-lifted c) h
+
+pub returns-in-Ok-clause-sound : goal.returns-in-Ok-clause-sound
+returns-in-Ok-clause-sound c = lift_is_sound c.args.self (Ok c.vouched.result) (stage_of c.self.view_is c.self.invariant.stage) (returns-in-Ok-clause-lifted c)

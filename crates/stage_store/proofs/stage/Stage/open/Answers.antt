@@ -1,8 +1,8 @@
 use Rattle.std.proofs.Common.{◌≡◌, ◌∙◌, ◌<◌, ℕ, List, arith, ap, sym, subst, subst₂, length, drop}
 use Rattle.lift_core.specs.Stages.{has_positive_last, has_negative_last}
 use Rattle.stage_store.specs.Classes.{ClassValue, AreClasses}
-use Rattle.stage_store.specs.Stage.{IsStage, norm_of}
-use Rattle.stage_store.specs.Opened.{AreOpened, IsOpen}
+use Rattle.stage_store.specs.Stage.{StageValue, IsStage, norm_of}
+use Rattle.stage_store.specs.Opened.{AreEnough, AreOpened, IsOpen}
 use Rattle.stage_store.proofs.StageFields.{classes_of, stage_of, parts_under}
 use Rattle.stage_store.proofs.ClosedNorm.{value_of}
 use Rattle.stage_store.proofs.Opening.{opened_is_open}
@@ -20,7 +20,7 @@ invariant_of-self c =
     let i = c.self.invariant in
     let a : AreOpened c.self.inside.plus.items c.self.inside.minus.items c.args.e c.kept.result.now c.in_ok-opened.opened.pairs.items =
     subst₂ (λ (p m : List ClassValue). AreOpened p m c.args.e c.kept.result.now c.in_ok-opened.opened.pairs.items) c.deref.ensures.value c.deref-2.ensures.value c.in_ok-opened.ensures.opened in
-    let above : c.self.inside.norm < c.args.e = omega (arith, ap norm_of c.self.view_is, c.requires) in
+    let above : c.self.inside.norm < c.args.e = omega (arith, ap norm_of c.self.view_is, c.requires.above) in
     let knows = c.knows.ensures c.if-not-knows.false in
     let rows : c.self.inside.sieve.rows ≡ length c.self.inside.listed.rows = knows.0 ∙ c.len.ensures in
     record {
@@ -38,7 +38,11 @@ invariant_of-self c =
       sieve_is = i.sieve_is;
       following_is = i.following_is;
       tally_is = i.tally_is;
-      ahead_is = λ t. subst (λ (n : ℕ). IsOpen (value_of c.self.inside.system c.self.inside.number c.self.inside.norm c.self.inside.before c.self.inside.listed.rows (drop c.self.inside.waited c.self.inside.waiting.rows)) n c.in_ok-opened.opened.pairs.items) (sym c.in_ok-opened.ensures.norm)
-          (opened_is_open (value_of c.self.inside.system c.self.inside.number c.self.inside.norm c.self.inside.before c.self.inside.listed.rows (drop c.self.inside.waited c.self.inside.waiting.rows)) c.self.inside.plus.items c.self.inside.minus.items c.args.e
-          i.plus_classes i.minus_classes c.self.inside.sieve c.kept.result.now c.in_ok-opened.opened.pairs.items i.stage i.sieve_is rows above knows.1 c.kept.ensures a c.in_ok-opened.ensures.ascending);
+      ahead_is = record {
+        defined = i.ahead_is.defined;
+        opens = λ t. subst (λ (n : ℕ). IsOpen (value_of c.self.inside.system c.self.inside.number c.self.inside.norm c.self.inside.before c.self.inside.listed.rows (drop c.self.inside.waited c.self.inside.waiting.rows)) n c.in_ok-opened.opened.pairs.items) (sym c.in_ok-opened.ensures.norm)
+            (opened_is_open (value_of c.self.inside.system c.self.inside.number c.self.inside.norm c.self.inside.before c.self.inside.listed.rows (drop c.self.inside.waited c.self.inside.waiting.rows)) c.self.inside.plus.items c.self.inside.minus.items c.args.e
+            i.plus_classes i.minus_classes c.self.inside.sieve c.kept.result.now c.in_ok-opened.opened.pairs.items i.stage i.sieve_is rows above knows.1 c.kept.ensures a c.in_ok-opened.ensures.ascending);
+        enough = λ t. subst₂ (λ (s : StageValue) (n : ℕ). AreEnough s n c.enough_for.result) (sym c.self.view_is) (sym c.in_ok-opened.ensures.norm) c.enough_for.ensures;
+      };
     }
