@@ -1,4 +1,4 @@
-//! A restart file that was altered: no proper front of it is accepted, nor the file with one byte raised.
+//! A restart file that was altered: no proper prefix of it is accepted, nor the file with one byte raised.
 
 use crate::runs::{folder_of, run};
 use crate::texts::{FOURTH, TWO_EQUATIONS};
@@ -19,8 +19,12 @@ fn is_refused<R: Threads + Sync>(rt: &R, alloc: Global, bytes: &[u8]) -> Result<
     Ok(end.as_str() == REFUSED)
 }
 
-// The lengths of the proper fronts of the text that are not refused.
-fn fronts_taken<R: Threads + Sync>(rt: &R, alloc: Global, text: &[u8]) -> Result<Vec<usize>, Fail> {
+// The lengths of the proper prefixes of the text that are not refused.
+fn prefixes_taken<R: Threads + Sync>(
+    rt: &R,
+    alloc: Global,
+    text: &[u8],
+) -> Result<Vec<usize>, Fail> {
     let mut taken = Vec::new(alloc);
     for length in 0..text.len() {
         if !is_refused(rt, alloc, &text[..length])? {
@@ -51,9 +55,9 @@ fn raised_taken<R: Threads + Sync>(rt: &R, alloc: Global, text: &[u8]) -> Result
 }
 
 #[test]
-fn no_proper_front_is_accepted(rt: HostRuntime) -> Result<(), Fail> {
-    let taken = fronts_taken(&rt, rt.alloc(), FOURTH.1.as_bytes())?;
-    assert!(rt; taken.is_empty(), "a front of {:?} bytes", taken.first());
+fn no_proper_prefix_is_accepted(rt: HostRuntime) -> Result<(), Fail> {
+    let taken = prefixes_taken(&rt, rt.alloc(), FOURTH.1.as_bytes())?;
+    assert!(rt; taken.is_empty(), "a prefix of {:?} bytes", taken.first());
     Ok(())
 }
 

@@ -9,7 +9,7 @@ use std::test::Fail;
 use std::thread::Threads;
 
 // Calls of the folder one behind the other: how many, the part and the name of their file, and what stands besides the input
-// where one of them fails: these texts whole, and of those behind them a proper front.
+// where one of them fails: these texts whole, and of those behind them a proper prefix.
 type Calls = (
     u64,
     &'static str,
@@ -100,7 +100,7 @@ fn find(texts: &[Text], name: &str) -> Option<&'static str> {
     None
 }
 
-// Whether a file has the one text whole, or a proper front of the other, or is absent where both are.
+// Whether a file has the one text whole, or a proper prefix of the other, or is absent where both are.
 fn is_due(file: Option<&[u8]>, whole: Option<&str>, cut: Option<&str>) -> bool {
     match (file, whole, cut) {
         (Some(bytes), Some(text), _) => bytes == text.as_bytes(),
