@@ -1,8 +1,9 @@
 -- What a run from a start comes to, and what it leaves.
-use Rattle.std.proofs.Common.{◌≡◌, ◌≤◌, ◌⊎◌, inl, inr, ℕ, List, refl, sym, ap, ◌∙◌, subst, arith}
+use Rattle.std.proofs.Common.{◌≡◌, ◌≤◌, ◌⊎◌, inl, inr, ℕ, List, [], refl, sym, ap, ◌∙◌, subst, arith}
 use Rattle.outside.specs.Causes.{Rose}
 use Rattle.lift_run.specs.Keeps.{HasKeepCause}
-use Rattle.std.specs.Prelude.{Option, Some, None, Result, Ok, Err, IfSome, IfOk}
+use Rattle.std.specs.Prelude.{Option, Some, None, Result, Ok, Err, IfSome, IfOk, IfErr, slice_index_or}
+use Rattle.std.specs.Option.{ok_or}
 use Rattle.outside.specs.Files.{Files}
 use Rattle.lift_core.specs.Systems.{ToolSystem}
 use Rattle.lift_core.specs.Ends.{End, Limits, EndsIn}
@@ -13,14 +14,14 @@ use Rattle.stage_store.specs.declared.stage.Lifted.{Lifted}
 use Rattle.stage_store.specs.declared.stage.Lifted.TheVariants.{Next}
 use Rattle.lift_run.specs.declared.ends.RunEnd.{RunEnd}
 use Rattle.lift_run.specs.declared.ends.RunEnd.TheVariants.{Failed}
-use Rattle.lift_run.specs.Runs.{end_of, AnswersWalk, AnswersEnd, KeepsSystem, IsOfSystem, StageWalks}
+use Rattle.lift_run.specs.Runs.{end_of, end_of_error, AnswersWalk, AnswersEnd, KeepsSystem, IsOfSystem, StageWalks}
 use Rattle.lift_run.proofs.Walking.{run_ends, of_first}
 use Rattle.backups.specs.declared.running.Stopped.{Stopped}
 use Rattle.backups.specs.declared.starts.Slot.{Slot}
 use Rattle.backups.specs.declared.starts.Start.{Start}
 use Rattle.backups.specs.declared.starts.Start.TheVariants.{Fresh, Resumed}
-use Rattle.backups.specs.Starts.{Begins, IsKept, IsDefinedStart, StartComesTo, system_of, names_from}
-use Rattle.backups.specs.Standing.{Turns, turns_from, LeavesFrom, LeavesRun, ended, named_end, IsSoundFrom, AreSolutions, HasStoppedCause}
+use Rattle.backups.specs.Starts.{Begins, IsKept, IsDefinedStart, StartComesTo, system_of, first_slot, name_of, names_from}
+use Rattle.backups.specs.Standing.{Turns, turns_from, next_backup, LeavesFrom, LeavesRun, ended, came_to, named_end, IsSoundFrom, AreSolutions, HasStoppedCause}
 use Rattle.backups.proofs.Soundness.{finished_sound}
 
 both : (named : Option End) (P Q : End → Type 0) (D : Type 0) → IfSome named P → (D
@@ -56,18 +57,30 @@ sound_from limits (Resumed s slot) (Ok f) kept of comes =
     (finished_sound limits s f.rows.rows f.pairs kept comes.0)
 sound_from limits start (Err e) kept of comes = tt
 
-pub leaves_from : (turns : Turns) (limits : Limits) (start : Start) (from : Lifted) (named : Option
-    End) (held after : Option Files) → Begins start from
-    → IfSome held (λ files. LeavesFrom turns limits from named files after)
-    → IfSome held (λ files. LeavesRun turns limits start named files after)
-leaves_from turns limits start from named None after b h = tt
-leaves_from turns limits start from named (Some files) after b h = inl (from, b, h)
+pub leaves_from : (turns : Turns) (limits : Limits) (start : Start) (from : Lifted) (came : Result
+    End (List ℕ)) (held after : Option Files) → Begins start from
+    → IfSome held (λ files. LeavesFrom turns limits from came files after)
+    → IfSome held (λ files. LeavesRun turns limits start came files after)
+leaves_from turns limits start from came None after b h = tt
+leaves_from turns limits start from came (Some files) after b h = inl (from, b, h)
+
+-- the first backup goes to the file of the slot
+none_yet : (slot : Slot) (interval : Option ℕ) (first second : List ℕ)
+    → name_of slot first second ≡ next_backup (turns_from slot interval first second) []
+none_yet slot None first second = refl
+none_yet slot (Some n) first second = refl
 
 -- the run did not begin
-pub leaves_before : (turns : Turns) (limits : Limits) (start : Start) (held after : Option Files)
-    → after ≡ held → IfSome held (λ files. LeavesRun turns limits start None files after)
-leaves_before turns limits start None after same = tt
-leaves_before turns limits start (Some files) after same = inr (refl, same)
+pub leaves_before : (limits : Limits) (start : Start) (slot : Slot) (interval : Option ℕ) (first
+    second : List ℕ) (held : Option Files) → slot ≡ first_slot start
+    → IfSome held (λ files. LeavesRun (turns_from (first_slot start) interval first second) limits
+    start (Err (name_of slot first second)) files held)
+leaves_before limits start slot interval first second None is = tt
+leaves_before limits start slot interval first second (Some files) is = inr (
+  ap (λ (name : List ℕ). Err name) (ap (λ (k : Slot). name_of k first second) is ∙ none_yet
+      (first_slot start) interval first second),
+  refl,
+)
 
 -- ---- an answer, and the file of the next backup
 pub of_ended : (P : Finish → Type 0) (r : Result Finish Stopped) (answer : Result Finish RunEnd)
@@ -75,20 +88,31 @@ pub of_ended : (P : Finish → Type 0) (r : Result Finish Stopped) (answer : Res
 of_ended P (Ok f) answer e h = subst (λ (x : Result Finish RunEnd). IfOk x P) (sym e) h
 of_ended P (Err s) answer e h = tt
 
+-- what it came to, from the answer and the slot
+pub came_of : (first second : List ℕ) (r : Result Finish Stopped) (answer : Result Finish RunEnd)
+    (next : Slot) → ended r ≡ answer → IfErr r (λ s. s.next ≡ next)
+    → came_to first second r ≡ ok_or (end_of answer) (name_of next first second)
+came_of first second (Ok f) answer next e h = ap (λ (x : Result Finish RunEnd). ok_or (end_of x)
+    (name_of next first second)) e
+came_of first second (Err s) answer next e h =
+    ap (λ (k : Slot). ok_or (end_of_error s.end) (name_of k first second)) h ∙ ap (λ (x : Result
+    Finish RunEnd). ok_or (end_of x) (name_of next first second)) e
+
 pub alone_leaves : (limits : Limits) (from : Lifted) (r : Result Finish Stopped) (answer : Result
     Finish RunEnd) (slot : Slot) (interval : Option ℕ) (first second : List ℕ) (held : Option Files)
-    → interval ≡ None → ended r ≡ answer
+    → interval ≡ None → ended r ≡ answer → IfErr r (λ s. s.next ≡ slot)
     → ((names : List (List ℕ)) (files : Files)
-    → LeavesFrom (record { interval = None; names = names }) limits from (end_of answer) files
-    (Some files))
+    → LeavesFrom (record { interval = None; names = names }) limits from (ok_or (end_of answer)
+    (slice_index_or names 0 [])) files (Some files))
     → IfSome held (λ files. LeavesFrom (turns_from slot interval first second) limits from
-    (named_end r) files held)
-alone_leaves limits from r answer slot interval first second None is e h = tt
-alone_leaves limits from r answer slot interval first second (Some files) is e h =
-    subst (λ (i : Option ℕ). LeavesFrom (turns_from slot i first second) limits from (named_end r)
-    files (Some files)) (sym is)
-    (subst (λ (x : Result Finish RunEnd). LeavesFrom (turns_from slot None first second) limits from
-    (end_of x) files (Some files)) (sym e) (h (names_from slot first second) files))
+    (came_to first second r) files held)
+alone_leaves limits from r answer slot interval first second None is e next h = tt
+alone_leaves limits from r answer slot interval first second (Some files) is e next h =
+    subst (λ (i : Option ℕ). LeavesFrom (turns_from slot i first second) limits from (came_to first
+    second r) files (Some files)) (sym is)
+    (subst (λ (x : Result End (List ℕ)). LeavesFrom (turns_from slot None first second) limits from
+    x files (Some files)) (sym (came_of first second r answer slot e next)) (h (names_from slot
+    first second) files))
 
 pub alone_calm : (r : Result Finish Stopped) (answer : Result Finish RunEnd) (A : Type 0)
     → ended r ≡ answer → (answer ≡ Err Failed → ⊥) → (s : Stopped) → r ≡ Err s → s.end ≡ Failed → A

@@ -1,7 +1,7 @@
 -- What the Keep was told is what stands in the folder.
 use Rattle.std.proofs.Common.{◌≡◌, ◌⊎◌, inl, inr, ℕ, List, [], ◌∷◌, take, refl, sym, ap, ◌∙◌, subst}
 use Rattle.std.specs.Prelude.{Option, Some, None, Result, Ok, Err, IfSome, slice_index_or, unwrap_or}
-use Rattle.std.specs.Option.{option_map}
+use Rattle.std.specs.Option.{option_map, ok_or}
 use Rattle.std.specs.List.{fold}
 use Rattle.outside.specs.Files.{Files, written}
 use Rattle.lift_core.specs.Ends.{End, Limits}
@@ -14,20 +14,26 @@ use Rattle.lift_run.specs.declared.ends.RunEnd.{RunEnd}
 use Rattle.lift_run.specs.Runs.{end_of}
 use Rattle.lift_run.specs.Keeps.{TellsTo, TellsKeep}
 use Rattle.backups.specs.declared.keeper.BackupState.{BackupState}
+use Rattle.backups.specs.declared.starts.Slot.{Slot}
+use Rattle.backups.specs.Starts.{name_of}
 use Rattle.backups.specs.Backups.{after_norm, MayBackUp, ends_of_intervals, next_name}
-use Rattle.backups.specs.Standing.{Turns, backed, next_backup, names_after, MayStandAfter, HasAllBackups, HasFirstBackups, LeavesFrom}
-use Rattle.backups.proofs.Backing.{go_in_turn, names_go, loan_stays}
+use Rattle.backups.specs.Standing.{Turns, turns_from, backed, next_backup, names_after, MayStandAfter, HasAllBackups, HasFirstBackups, LeavesFrom}
+use Rattle.backups.proofs.Backing.{go_in_turn, names_go, loan_stays, names_stay}
 
 -- ---- without backups
 abbrev never : List (List ℕ) → Turns
 never names = record { interval = None; names = names }
 
+-- the end that is named, or the first name, which stays the next one
+abbrev alone_to : List (List ℕ) → Option End → Result End (List ℕ)
+alone_to names named = ok_or named (slice_index_or names 0 [])
+
 nothing_written : {X : Type 0} (after : X → StageValue → X) (torn : X → StageValue → X
     → Type 0) (limits : Limits) (s : StageValue) (named : Option End) (old new : Option X) (names :
     List (List ℕ)) (files : Files)
     → TellsTo after torn limits s named old new
-    → LeavesFrom (never names) limits (Next s) named files (Some files)
-nothing_written after torn limits s None old new names files h = (h.closed, h.final, h.leads, inl refl)
+    → LeavesFrom (never names) limits (Next s) (alone_to names named) files (Some files)
+nothing_written after torn limits s None old new names files h = (h.closed, h.final, h.leads, refl, inl refl)
 nothing_written after torn limits s (Some end) old new names files h = record {
   closed = h.closed;
   closes = (h.final, h.leads, h.ends);
@@ -35,15 +41,15 @@ nothing_written after torn limits s (Some end) old new names files h = record {
 }
 
 nothing_begun : (limits : Limits) (f : Finish) (named : Option End) (names : List (List ℕ)) (files :
-    Files) → LeavesFrom (never names) limits (Last f) named files (Some files)
-nothing_begun limits f None names files = refl
+    Files) → LeavesFrom (never names) limits (Last f) (alone_to names named) files (Some files)
+nothing_begun limits f None names files = (refl, refl)
 nothing_begun limits f (Some end) names files = record { closed = []; closes = refl; files = refl }
 
 pub leaves_nothing : {X : Type 0} (after : X → StageValue → X) (torn : X → StageValue → X
     → Type 0) (limits : Limits) (from : Lifted) (answer : Result Finish RunEnd) (old new : Option X)
     (names : List (List ℕ)) (files : Files)
     → TellsKeep after torn limits from answer old new
-    → LeavesFrom (never names) limits from (end_of answer) files (Some files)
+    → LeavesFrom (never names) limits from (alone_to names (end_of answer)) files (Some files)
 leaves_nothing after torn limits (Next s) answer old new names files h = nothing_written after torn
     limits s (end_of answer) old new names files h
 leaves_nothing after torn limits (Last f) answer old new names files h = nothing_begun limits f
@@ -53,12 +59,19 @@ leaves_nothing after torn limits (Last f) answer old new names files h = nothing
 inside : (x y : BackupState) → Some x ≡ Some y → x ≡ y
 inside x y e = ap (λ (o : Option BackupState). unwrap_or o x) e
 
-module _ (limits : Limits) (lent n : ℕ) (names : List (List ℕ)) where
+module _ (limits : Limits) (lent n : ℕ) (slot : Slot) (first second : List ℕ) where
   abbrev begun_with : Option Files → BackupState
-  begun_with held = record { lent = lent; files = held; names = names; interval = n; left = n }
+  begun_with held = record {
+    lent = lent;
+    files = held;
+    names = first ∷ second ∷ [];
+    slot = slot;
+    interval = n;
+    left = n;
+  }
 
   abbrev each : Turns
-  each = record { interval = Some n; names = names }
+  each = turns_from slot (Some n) first second
 
   files_after : (held : Option Files) (closed : List StageValue)
       → (fold after_norm (begun_with held) closed).files ≡ option_map (backed each closed) held
@@ -68,6 +81,20 @@ module _ (limits : Limits) (lent n : ℕ) (names : List (List ℕ)) where
       → next_name (fold after_norm (begun_with held) closed) ≡ next_backup each closed
   next_after held closed = ap (λ (l : List (List ℕ)). slice_index_or l 0 []) (names_go (begun_with
       held) closed)
+
+  -- the slot of a state that follows these stages is that of the next backup's file
+  next_is : (held : Option Files) (closed : List StageValue) (now : BackupState)
+      → now.slot ≡ (fold after_norm (begun_with held) closed).slot
+      → name_of now.slot first second ≡ next_backup each closed
+  next_is held closed now same =
+      ap (λ (k : Slot). name_of k first second) same
+      ∙ ap (λ (l : List (List ℕ)). name_of (fold after_norm (begun_with held) closed).slot
+      (slice_index_or l 0 []) (slice_index_or l 1 [])) (sym (names_stay (begun_with held) closed))
+      ∙ next_after held closed
+
+  -- the end that is named, or the file of the next backup, as the state has it
+  abbrev ends_at : Option End → BackupState → Result End (List ℕ)
+  ends_at named now = ok_or named (name_of now.slot first second)
 
   -- the state that follows kept stages
   whole : (files : Files) (closed : List StageValue) (now : BackupState)
@@ -92,21 +119,30 @@ module _ (limits : Limits) (lent n : ℕ) (names : List (List ℕ)) where
 
   told : (files : Files) (s : StageValue) (named : Option End) (now : BackupState)
       → TellsTo after_norm MayBackUp limits s named (Some (begun_with (Some files))) (Some now)
-      → LeavesFrom each limits (Next s) named files now.files
+      → LeavesFrom each limits (Next s) (ends_at named now) files now.files
   told files s None now h = elim h.stands [
     | inl e ↦ (
       h.closed,
       h.final,
       h.leads,
+      next_is (Some files) h.closed now (ap (λ (b : BackupState). b.slot) (inside now (fold
+          after_norm (begun_with (Some files)) h.closed) e)),
       inl (whole files h.closed now (inside now (fold
           after_norm (begun_with (Some files)) h.closed) e)),
     )
     | inr m ↦ elim m.2.1 [
-      | inl same ↦ (h.closed, h.final, h.leads, inl (whole files h.closed now same))
+      | inl same ↦ (
+        h.closed,
+        h.final,
+        h.leads,
+        next_is (Some files) h.closed now (ap (λ (b : BackupState). b.slot) same),
+        inl (whole files h.closed now same),
+      )
       | inr cut ↦ (
         h.closed,
         h.final,
         h.leads,
+        next_is (Some files) h.closed now (ap (λ (b : BackupState). b.slot) cut.1),
         inr (
           m.0,
           m.1,
@@ -124,8 +160,12 @@ module _ (limits : Limits) (lent n : ℕ) (names : List (List ℕ)) where
   }
 
   ready : (files : Files) (f : Finish) (named : Option End) (now : BackupState)
-      → Some now ≡ Some (begun_with (Some files)) → LeavesFrom each limits (Last f) named files now.files
-  ready files f None now e = ap (λ (b : BackupState). b.files) (inside now (begun_with (Some files)) e)
+      → Some now ≡ Some (begun_with (Some files))
+      → LeavesFrom each limits (Last f) (ends_at named now) files now.files
+  ready files f None now e = (
+    next_is (Some files) [] now (ap (λ (b : BackupState). b.slot) (inside now (begun_with (Some files)) e)),
+    ap (λ (b : BackupState). b.files) (inside now (begun_with (Some files)) e),
+  )
   ready files f (Some end) now e = record {
     closed = [];
     closes = refl;
@@ -135,7 +175,7 @@ module _ (limits : Limits) (lent n : ℕ) (names : List (List ℕ)) where
 
   pub leaves_backups : (held : Option Files) (from : Lifted) (answer : Result Finish RunEnd) (now :
       BackupState) → TellsKeep after_norm MayBackUp limits from answer (Some (begun_with held)) (Some now)
-      → IfSome held (λ files. LeavesFrom each limits from (end_of answer) files now.files)
+      → IfSome held (λ files. LeavesFrom each limits from (ends_at (end_of answer) now) files now.files)
   leaves_backups None from answer now h = tt
   leaves_backups (Some files) (Next s) answer now h = told files s (end_of answer) now h
   leaves_backups (Some files) (Last f) answer now h = ready files f (end_of answer) now h
@@ -162,20 +202,28 @@ module _ (limits : Limits) (lent n : ℕ) (names : List (List ℕ)) where
 
 -- ---- from any state that begins so
 module _ (limits : Limits) (from : Lifted) (answer : Result Finish RunEnd) (old now : BackupState)
-    (held : Option Files) (n : ℕ) (names : List (List ℕ))
-    (f : old.files ≡ held) (m : old.names ≡ names) (i : old.interval ≡ n) (l : old.left ≡ n)
+    (held : Option Files) (n : ℕ) (slot : Slot) (first second : List ℕ)
+    (f : old.files ≡ held) (m : old.names ≡ first ∷ second ∷ []) (k : old.slot ≡ slot)
+    (i : old.interval ≡ n) (l : old.left ≡ n)
     (told_all : TellsKeep after_norm MayBackUp limits from answer (Some old) (Some now)) where
-  as_begun : old ≡ begun_with limits old.lent n names held
-  as_begun = λ j. record { lent = old.lent; files = f j; names = m j; interval = i j; left = l j }
+  as_begun : old ≡ begun_with limits old.lent n slot first second held
+  as_begun = λ j. record {
+    lent = old.lent;
+    files = f j;
+    names = m j;
+    slot = k j;
+    interval = i j;
+    left = l j;
+  }
 
   told_begun : TellsKeep after_norm MayBackUp limits from answer (Some (begun_with limits old.lent n
-      names held)) (Some now)
+      slot first second held)) (Some now)
   told_begun = subst (λ (b : BackupState). TellsKeep after_norm MayBackUp limits from answer (Some
       b) (Some now)) as_begun told_all
 
-  pub leaves_all : IfSome held (λ files. LeavesFrom (each limits old.lent n names) limits from
-      (end_of answer) files now.files)
-  leaves_all = leaves_backups limits old.lent n names held from answer now told_begun
+  pub leaves_all : IfSome held (λ files. LeavesFrom (turns_from slot (Some n) first second) limits from
+      (ok_or (end_of answer) (name_of now.slot first second)) files now.files)
+  leaves_all = leaves_backups limits old.lent n slot first second held from answer now told_begun
 
   pub same_loan_all : now.lent ≡ old.lent
-  same_loan_all = same_folder limits old.lent n names held from answer now told_begun
+  same_loan_all = same_folder limits old.lent n slot first second held from answer now told_begun

@@ -6,22 +6,28 @@ use Rattle.outside.specs.Files.{Files, written}
 use Rattle.stage_store.specs.Stage.{StageValue}
 use Rattle.restart_file.specs.Texts.{text_of_stage}
 use Rattle.backups.specs.declared.keeper.BackupState.{BackupState}
+use Rattle.backups.specs.Starts.{other_slot, name_of, names_from}
+
+-- both names, that of the next file first
+abbrev pub names_in_turn : BackupState → List (List ℕ)
+names_in_turn s = names_from s.slot (slice_index_or s.names 0 []) (slice_index_or s.names 1 [])
 
 -- the name that the next backup goes to
 abbrev pub next_name : BackupState → List ℕ
-next_name s = slice_index_or s.names 0 []
+next_name s = name_of s.slot (slice_index_or s.names 0 []) (slice_index_or s.names 1 [])
 
 -- the names take turns
 abbrev pub turned : List (List ℕ) → List (List ℕ)
 turned [] = []
 turned (a ∷ names) = names ++ a ∷ []
 
--- the next name holds the stage's text, and the other name is next
+-- the next name holds the stage's text, and the other file is next
 abbrev pub backed_up : BackupState → StageValue → BackupState
 backed_up s stage = record {
   lent = s.lent;
   files = option_map (written (next_name s) (text_of_stage stage)) s.files;
-  names = turned s.names;
+  names = s.names;
+  slot = other_slot s.slot;
   interval = s.interval;
   left = s.interval;
 }
@@ -57,5 +63,5 @@ written_in_turn names (stage ∷ stages) files =
 abbrev pub GoInTurn : Type 0
 GoInTurn =
     (s : BackupState) (closed : List StageValue)
-    → (fold after_norm s closed).files ≡ option_map (written_in_turn s.names (ends_of_intervals
-    s.interval s.left closed)) s.files
+    → (fold after_norm s closed).files ≡ option_map (written_in_turn (names_in_turn s)
+    (ends_of_intervals s.interval s.left closed)) s.files

@@ -1,12 +1,13 @@
 -- What stands in a folder after a run with backups.
 use Rattle.std.specs.Prelude.{◌≡◌, ◌⊎◌, ◌≤◌, ◌<◌, ℕ, ℤ, List, [], ◌∷◌, ◌++◌, length, Option, None, Some, Result, Ok, Err, take, slice_index_or, ⊤}
 use Rattle.std.specs.List.{AllByRecursion}
+use Rattle.std.specs.Option.{ok_or}
 use Rattle.std.specs.FinMap.{get}
 use Rattle.outside.specs.Files.{Files, written}
 use Rattle.outside.specs.Causes.{Rose}
 use Rattle.int_vector.specs.Vectors.{norm}
 use Rattle.lift_core.specs.Systems.{LinearSystem, Solves}
-use Rattle.lift_core.specs.Ends.{End, Limits}
+use Rattle.lift_core.specs.Ends.{End, Limits, finished}
 use Rattle.stage_store.specs.Stage.{StageValue}
 use Rattle.stage_store.specs.declared.stage.Finish.{Finish}
 use Rattle.stage_store.specs.declared.stage.Lifted.{Lifted}
@@ -14,14 +15,14 @@ use Rattle.stage_store.specs.declared.stage.Lifted.TheVariants.{Next, Last}
 use Rattle.restart_file.specs.Texts.{text_of_stage}
 use Rattle.lift_run.specs.declared.ends.RunEnd.{RunEnd}
 use Rattle.lift_run.specs.declared.ends.RunEnd.TheVariants.{Failed}
-use Rattle.lift_run.specs.Runs.{end_of}
+use Rattle.lift_run.specs.Runs.{end_of, end_of_error}
 use Rattle.lift_run.specs.Keeps.{Leads, EndsHere, IsClosing}
 use Rattle.backups.specs.declared.running.Stopped.{Stopped}
 use Rattle.backups.specs.declared.starts.Start.{Start}
 use Rattle.backups.specs.declared.starts.Start.TheVariants.{Fresh, Resumed}
 use Rattle.backups.specs.Backups.{turned, ends_of_intervals, written_in_turn}
 use Rattle.backups.specs.declared.starts.Slot.{Slot}
-use Rattle.backups.specs.Starts.{Begins, names_from}
+use Rattle.backups.specs.Starts.{Begins, name_of, names_from}
 
 -- after every so many closed norms, or never, a backup goes to these names in turn
 pub record Turns : Type 0 where
@@ -70,22 +71,24 @@ MayStandAfter turns limits final closed before after =
     ⊎ ((t : StageValue) × IsClosing limits final t × (k : ℕ)
     × (after ≡ Some (written (next_backup turns closed) (take k (text_of_stage t)) (backed turns closed before))))
 
--- the files have the backups of the first norms that the walk closes, and that of one more may be torn
-abbrev pub HasFirstBackups : Turns → Limits → Lifted → Files → Option Files → Type 0
-HasFirstBackups turns limits (Next s) before after =
-    (closed : List StageValue) × (final : StageValue) × Leads limits s closed final × MayStandAfter turns limits final closed before after
-HasFirstBackups turns limits (Last f) before after = after ≡ Some before
+-- the files have the backups of the first norms that the walk closes, and that of one more may be torn, the one that goes to
+-- the file `next`
+abbrev pub HasFirstBackups : Turns → Limits → Lifted → List ℕ → Files → Option Files → Type 0
+HasFirstBackups turns limits (Next s) next before after =
+    (closed : List StageValue) × (final : StageValue) × Leads limits s closed final
+    × (next ≡ next_backup turns closed) × MayStandAfter turns limits final closed before after
+HasFirstBackups turns limits (Last f) next before after = (next ≡ next_backup turns []) × (after ≡ Some before)
 
--- by the end that the run comes to; where it breaks off, no end is named
-abbrev pub LeavesFrom : Turns → Limits → Lifted → Option End → Files → Option Files → Type 0
-LeavesFrom turns limits from None before after = HasFirstBackups turns limits from before after
-LeavesFrom turns limits from (Some end) before after = HasAllBackups turns limits from end before after
+-- by the end that the run comes to, or the file of its next backup, where it breaks off
+abbrev pub LeavesFrom : Turns → Limits → Lifted → Result End (List ℕ) → Files → Option Files → Type 0
+LeavesFrom turns limits from (Ok end) before after = HasAllBackups turns limits from end before after
+LeavesFrom turns limits from (Err next) before after = HasFirstBackups turns limits from next before after
 
 -- what a run from a start leaves; it may break off before it begins
-abbrev pub LeavesRun : Turns → Limits → Start → Option End → Files → Option Files → Type 0
-LeavesRun turns limits start named before after =
-    ((from : Lifted) × Begins start from × LeavesFrom turns limits from named before after)
-    ⊎ ((named ≡ None) × (after ≡ Some before))
+abbrev pub LeavesRun : Turns → Limits → Start → Result End (List ℕ) → Files → Option Files → Type 0
+LeavesRun turns limits start came before after =
+    ((from : Lifted) × Begins start from × LeavesFrom turns limits from came before after)
+    ⊎ ((came ≡ Err (next_backup turns [])) × (after ≡ Some before))
 
 -- ---- answers
 -- why the run stopped, without the file of its next backup
@@ -95,6 +98,11 @@ ended (Err s) = Err s.end
 
 abbrev pub named_end : Result Finish Stopped → Option End
 named_end result = end_of (ended result)
+
+-- the end that is named, or the name of the file of the next backup, of those of both files, where the run broke off
+abbrev pub came_to : List ℕ → List ℕ → Result Finish Stopped → Result End (List ℕ)
+came_to first second (Ok f) = Ok (finished f.rows.rows f.pairs)
+came_to first second (Err s) = ok_or (end_of_error s.end) (name_of s.next first second)
 
 -- the count has not fallen, and a failure is answered only where it rose
 pub record HasStoppedCause (before now : ℕ) (result : Result Finish Stopped) : Type 0 where

@@ -1,11 +1,12 @@
 //! The run from a start, with its backups.
 
-ghost use Rattle.std.specs.Prelude.{◌≡◌, ◌≤◌, ℕ, List, Option, None, Some, Err, IfOk, IfSome};
+ghost use Rattle.std.specs.Prelude.{◌≡◌, ◌≤◌, ℕ, List, [], slice_index_or, Option, None, Some, Err, IfOk, IfErr, IfSome};
+ghost use Rattle.std.specs.Option.{ok_or};
 ghost use Rattle.outside.specs.Files.{Files};
 ghost use Rattle.stage_store.specs.Lifted.{IsLiftedDefined};
 ghost use Rattle.lift_run.specs.Runs.{bounds, end_of, AnswersWalk, AnswersEnd, KeepsSystem, IsOfSystem, HasAllSolutions};
-ghost use Rattle.backups.specs.Starts.{Begins, IsKept, IsDefinedStart, StartComesTo, system_of, first_slot, name_of};
-ghost use Rattle.backups.specs.Standing.{LeavesFrom, LeavesRun, turns_from, ended, named_end, HasStoppedCause, IsSoundFrom};
+ghost use Rattle.backups.specs.Starts.{Begins, IsKept, IsDefinedStart, StartComesTo, system_of, first_slot};
+ghost use Rattle.backups.specs.Standing.{LeavesFrom, LeavesRun, turns_from, ended, came_to, named_end, HasStoppedCause, IsSoundFrom};
 
 use crate::{Backup, Slot, Start};
 use lift_run::{Limits, NoKeep, RunEnd, run};
@@ -26,20 +27,8 @@ pub struct BackupPlan<'a> {
     pub interval: Option<u32>,
 }
 
-impl<'a> BackupPlan<'a> {
-    // The name of a file.
-    fn name(self, slot: Slot) -> &'a str
-        ensures { result.now ≡ name_of slot self.entry.first.now self.entry.second.now }
-    {
-        match slot {
-            Slot::First => self.first,
-            Slot::Second => self.second,
-        }
-    }
-}
-
-/// Why a run did not finish, and which restart file its next backup goes to: where a backup was refused, the one at which it
-/// was.
+/// Why a run did not finish, and which restart file its next backup goes to: where a backup was refused, the file that was
+/// refused.
 #[derive(Debug, Drop)]
 pub struct Stopped {
     pub end: RunEnd,
@@ -63,7 +52,8 @@ fn begin(alloc: Global, start: Start) -> Result<Lifted, AllocError>
 
 // The answer of a run, with the file of its next backup.
 fn stopped_at(answer: Result<Finish, RunEnd>, next: Slot) -> Result<Finish, Stopped>
-    ensures { ended result ≡ answer }
+    ensures ended { ended result ≡ answer }
+    ensures next { IfErr result (λ s. s.next ≡ next) }
 {
     match answer {
         Ok(finish) => Ok(finish),
@@ -89,7 +79,8 @@ fn run_alone<R: Threads + Sync, G: Gate + Sync>(
     ensures system { IfOk result (KeepsSystem from) }
     ensures rows { IsLiftedDefined from → IfOk result HasAllSolutions }
     ensures leaves { (names : List (List ℕ)) (files : Files)
-        → LeavesFrom (record { interval = None; names = names }) (bounds limits) from (end_of result) files (Some files) }
+        → LeavesFrom (record { interval = None; names = names }) (bounds limits) from
+        (ok_or (end_of result) (slice_index_or names 0 [])) files (Some files) }
     ensures sure { result ≡ Err RunEnd.Failed → ⊥ }
 {
     run(rt, alloc, from, limits, gate, &mut NoKeep)
@@ -118,18 +109,11 @@ fn run_backed<R: Threads + Sync, F: Folder, G: Gate + Sync>(
     ensures system { IfOk result (KeepsSystem from) }
     ensures rows { IsLiftedDefined from → IfOk result HasAllSolutions }
     ensures leaves { IfSome (F.held folder.old) (λ files.
-        LeavesFrom (turns_from slot (Some interval) plan.entry.first.now plan.entry.second.now) (bounds limits) from (named_end result)
-        files (F.held folder.new)) }
+        LeavesFrom (turns_from slot (Some interval) plan.entry.first.now plan.entry.second.now) (bounds limits) from
+        (came_to plan.entry.first.now plan.entry.second.now result) files (F.held folder.new)) }
     ensures cause { HasStoppedCause (F.faults folder.old) (F.faults folder.new) result }
 {
-    let mut keep = Backup::new(
-        alloc,
-        folder,
-        plan.name(slot),
-        plan.name(slot.other()),
-        slot,
-        interval,
-    );
+    let mut keep = Backup::new(alloc, folder, plan.first, plan.second, slot, interval);
     let answer = run(rt, alloc, from, limits, gate, &mut keep);
     stopped_at(answer, keep.next_slot())
 }
@@ -156,8 +140,8 @@ fn run_from<R: Threads + Sync, F: Folder, G: Gate + Sync>(
     ensures system { IfOk result (KeepsSystem from) }
     ensures rows { IsLiftedDefined from → IfOk result HasAllSolutions }
     ensures leaves { IfSome (F.held folder.old) (λ files.
-        LeavesFrom (turns_from slot plan.entry.interval plan.entry.first.now plan.entry.second.now) (bounds limits) from (named_end result)
-        files (F.held folder.new)) }
+        LeavesFrom (turns_from slot plan.entry.interval plan.entry.first.now plan.entry.second.now) (bounds limits) from
+        (came_to plan.entry.first.now plan.entry.second.now result) files (F.held folder.new)) }
     ensures apart { plan.entry.interval ≡ None → folder.new ≡ folder.old }
     ensures cause { HasStoppedCause (F.faults folder.old) (F.faults folder.new) result }
 {
@@ -199,10 +183,11 @@ pub fn run_start<R: Threads + Sync, F: Folder, G: Gate + Sync>(
     ensures rows { IsDefinedStart start → IfOk result HasAllSolutions }
     ensures sound { IfOk result (IsSoundFrom start) }
 
-    // Which backups then stand.
+    // Which backups then stand. Where the run broke off, the file of `next` is that of the backup that would have come then:
+    // it alone may be torn, and all other files are as the backups before it left them.
     ensures leaves { IfSome (F.held folder.old) (λ files.
         LeavesRun (turns_from (first_slot start) plan.entry.interval plan.entry.first.now plan.entry.second.now) (bounds limits) start
-        (named_end result) files (F.held folder.new)) }
+        (came_to plan.entry.first.now plan.entry.second.now result) files (F.held folder.new)) }
 
     // Without an interval no call of the folder is made.
     ensures apart { plan.entry.interval ≡ None → folder.new ≡ folder.old }

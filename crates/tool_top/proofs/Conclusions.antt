@@ -121,6 +121,13 @@ refused_both : (plan : Plan) (f g : RestartFault) (b : Bool) → resumes plan.jo
 refused_both plan f g true is h = record { resumed = is; first_fault = h.0; second_fault = h.1 }
 refused_both plan f g false is h = absurd (cc)
 
+-- a restart file is read where a run is to be resumed
+failed_resumed : (plan : Plan) (slot : Slot) (b : Bool) → resumes plan.job ≡ b
+    → FindsStartOf b (system_of_plan plan) plan.stored (Err (start.Failed slot))
+    → resumes plan.job ≡ true
+failed_resumed plan slot true is h = is
+failed_resumed plan slot false is h = absurd (cc)
+
 -- the start that was found
 abbrev start_or : Start → Result Start StartEnd → Start
 start_or other (Ok s) = s
@@ -260,8 +267,14 @@ module _ (tool : Tool) (job : Job) where
         plan.job) refl h;
     leaves = u;
   }
-  start_ends plan (start.Failed First) h t u = record { comes = tt; leaves = inl u }
-  start_ends plan (start.Failed Second) h t u = record { comes = tt; leaves = inl u }
+  start_ends plan (start.Failed First) h t u = record {
+    comes = tt;
+    leaves = inl (failed_resumed plan First (resumes plan.job) refl h, u);
+  }
+  start_ends plan (start.Failed Second) h t u = record {
+    comes = tt;
+    leaves = inl (failed_resumed plan Second (resumes plan.job) refl h, u);
+  }
   start_ends plan start.Memory h t u = memory_ends (Ok plan) t u
 
   -- the folder is as before, and these are the plan's files

@@ -1,8 +1,8 @@
 -- What the ends of a run say: it was stopped or broke off, the writing of its outputs was cut, or
 -- all is written.
 use Rattle.std.proofs.Common.{◌≡◌, inl, inr, ℕ, List, [], ◌∷◌, Option, None, Some, Result, Ok, Err, IfSome, IsErrAnd, refl, ap, sym, subst, ◌∙◌}
-use Rattle.std.specs.Prelude.{ℤ}
-use Rattle.std.specs.Option.{option_map}
+use Rattle.std.specs.Prelude.{ℤ, slice_index_or}
+use Rattle.std.specs.Option.{option_map, ok_or}
 use Rattle.outside.specs.Files.{Files}
 use Rattle.lift_core.specs.Systems.{ToolSystem}
 use Rattle.lift_core.specs.Ends.{Limits, finished}
@@ -10,6 +10,7 @@ use Rattle.lift_core.specs.Ends.{End as LiftEnd}
 use Rattle.lift_core.specs.declared.Tool.{Tool}
 use Rattle.lift_core.specs.declared.Tool.TheVariants.{Graver, Hilbert, Zsolve}
 use Rattle.stage_store.specs.Stage.{StageValue}
+use Rattle.stage_store.specs.declared.stage.Finish.{Finish}
 use Rattle.stage_store.specs.declared.stage.Lifted.{Lifted}
 use Rattle.stage_store.specs.declared.stage.Lifted.TheVariants.{Next, Last}
 use Rattle.lift_run.specs.declared.ends.Place.TheVariants.{Row, Norm}
@@ -22,8 +23,8 @@ use Rattle.backups.specs.declared.running.Stopped.{Stopped}
 use Rattle.backups.specs.declared.starts.Slot.{Slot}
 use Rattle.backups.specs.declared.starts.Slot.TheVariants.{First, Second}
 use Rattle.backups.specs.declared.starts.Start.{Start}
-use Rattle.backups.specs.Starts.{Stored, StartComesTo, first_slot}
-use Rattle.backups.specs.Standing.{Turns, turns_from, backed, LeavesFrom, LeavesRun}
+use Rattle.backups.specs.Starts.{Stored, StartComesTo, first_slot, name_of, names_from}
+use Rattle.backups.specs.Standing.{Turns, turns_from, backed, backed_up_of, names_after, LeavesFrom, LeavesRun, came_to}
 use Rattle.tool_top.specs.declared.ends.Part.{Part}
 use Rattle.tool_top.specs.declared.ends.Part.TheVariants.{Ckp0, Ckp1, Gra, Hil, Zhom, Zinhom, Out}
 use Rattle.tool_top.specs.declared.ends.End.{End}
@@ -35,11 +36,15 @@ use Rattle.tool_top.specs.Outputs.{OutputFile, file_of, to_write, written_all, r
 use Rattle.tool_top.specs.Expected.{limits_of, StartsAs, Finishes}
 use Rattle.tool_top.specs.Summary.{Tells}
 use Rattle.tool_top.specs.Left.{Traces, BacksUp, IsCutAt, IsCutInFile, LeavesCut, turns_for}
-use Rattle.tool_top.specs.Inside.Ends.{end_of_run, end_of_stopped, end_of, Ends}
+use Rattle.tool_top.specs.Inside.Ends.{end_of_run, end_of_stopped, came_for, end_of, Ends}
 use Rattle.tool_top.specs.Inside.Writing.{AreSelectedOf, CutsTo, TellsOf}
 use Rattle.tool_top.proofs.Conclusions.{traces, EndsOver, at_error}
 
 -- ---- the files that a run leaves
+-- a run that came to an end did not break off
+came_not : {A : Type 0} {name : A} (end : LiftEnd) → Ok end ≡ Err name → ⊥
+came_not end is = cc
+
 none_backed : (turns : Turns) (files : Files) → backed turns [] files ≡ files
 none_backed turns files = none_of turns.interval turns.names files
   where
@@ -48,51 +53,71 @@ none_backed turns files = none_of turns.interval turns.names files
     none_of None names files = refl
     none_of (Some n) names files = refl
 
--- a run that came to its end has left the first backups too
-left_first : (turns : Turns) (limits : Limits) (from : Lifted) (end : LiftEnd) (before : Files)
-    (after : Option Files) → LeavesFrom turns limits from (Some end) before after
-    → LeavesFrom turns limits from None before after
-left_first turns limits (Next s) end before after h = (h.closed, h.closes.0, h.closes.1, inl h.files)
-left_first turns limits (Last f) end before after h = h.files ∙ ap (λ (l : List StageValue). Some
-    (backed turns l before)) h.closes ∙ ap (λ (x : Files). Some x) (none_backed turns before)
+-- the backup that follows these goes to the file of some slot
+next_slot : (slot : Slot) (first second : List ℕ) (stages : List StageValue)
+    → (next : Slot) × (name_of next first second ≡ slice_index_or (names_after (names_from slot
+    first second) stages) 0 [])
+next_slot slot first second [] = (slot, refl)
+next_slot First first second (stage ∷ stages) = next_slot Second first second stages
+next_slot Second first second (stage ∷ stages) = next_slot First first second stages
 
-pub broken_off : (turns : Turns) (limits : Limits) (start : Start) (end : LiftEnd) (before : Files)
-    (after : Option Files) → LeavesRun turns limits start (Some end) before after
-    → LeavesRun turns limits start None before after
-broken_off turns limits start end before after (inl h) = inl (
-  h.0,
-  h.1,
-  left_first turns limits h.0
-      end before after h.2,
-)
-broken_off turns limits start end before after (inr h) = absurd (let e : Some end ≡ None = h.0 in cc)
+-- a run that came to its end has left what one leaves that breaks off behind its last backup
+module _ (slot : Slot) (interval : Option ℕ) (first second : List ℕ) (limits : Limits) where
+  abbrev its_turns : Turns
+  its_turns = turns_from slot interval first second
+
+  left_first : (from : Lifted) (end : LiftEnd) (before : Files) (after : Option Files)
+      → LeavesFrom its_turns limits from (Ok end) before after
+      → (next : Slot) × LeavesFrom its_turns limits from (Err (name_of next first second)) before after
+  left_first (Next s) end before after h =
+      let n : (next : Slot) × (name_of next first second ≡ slice_index_or (names_after (names_from
+      slot first second) (backed_up_of interval h.closed)) 0 []) = next_slot slot first second
+      (backed_up_of interval h.closed) in
+      (n.0, (h.closed, h.closes.0, h.closes.1, n.1, inl h.files))
+  left_first (Last f) end before after h =
+      let n : (next : Slot) × (name_of next first second ≡ slice_index_or (names_after (names_from
+      slot first second) (backed_up_of interval [])) 0 []) = next_slot slot first second
+      (backed_up_of interval []) in
+      let same : after ≡ Some before = h.files ∙ ap (λ (l : List StageValue). Some (backed its_turns l
+      before)) h.closes ∙ ap (λ (x : Files). Some x) (none_backed its_turns before) in
+      (n.0, (n.1, same))
+
+  pub broken_off : (start : Start) (end : LiftEnd) (before : Files) (after : Option Files)
+      → LeavesRun its_turns limits start (Ok end) before after
+      → (next : Slot) × LeavesRun its_turns limits start (Err (name_of next first second)) before after
+  broken_off start end before after (inl h) =
+      let l : (next : Slot) × LeavesFrom its_turns limits h.0 (Err (name_of next first second))
+      before after = left_first h.0 end before after h.2 in
+      (l.0, inl (h.0, h.1, l.1))
+  broken_off start end before after (inr h) = absurd (came_not end h.0)
 
 -- the files stand, where an end is named
 stand_from : (turns : Turns) (limits : Limits) (from : Lifted) (end : LiftEnd) (before : Files)
-    (after : Option Files) → LeavesFrom turns limits from (Some end) before after
+    (after : Option Files) → LeavesFrom turns limits from (Ok end) before after
     → (files : Files) × (after ≡ Some files)
 stand_from turns limits from end before after h = (backed turns h.closed before, h.files)
 
 pub stand : (turns : Turns) (limits : Limits) (start : Start) (end : LiftEnd) (before : Files)
-    (after : Option Files) → LeavesRun turns limits start (Some end) before after
+    (after : Option Files) → LeavesRun turns limits start (Ok end) before after
     → (files : Files) × (after ≡ Some files)
 stand turns limits start end before after (inl h) = stand_from turns limits h.0 end before after h.2
-stand turns limits start end before after (inr h) = absurd (let e : Some end ≡ None = h.0 in cc)
+stand turns limits start end before after (inr h) = absurd (came_not end h.0)
 
 -- the names and the interval of a job's run are those of the job
-pub leaves-job : (job : Job) (s : Start) (interval : Option ℕ) (first second : List ℕ) (named :
-    Option LiftEnd) (held new : Option Files) → interval ≡ interval_for job.tables job.backup
+pub leaves-job : (job : Job) (s : Start) (interval : Option ℕ) (first second : List ℕ) (r : Result
+    Finish Stopped) (held new : Option Files) → interval ≡ interval_for job.tables job.backup
     → first ≡ file_name (project_of job) Ckp0 → second ≡ file_name (project_of job) Ckp1
     → IfSome held (λ files. LeavesRun (turns_from (first_slot s) interval first second) (limits_of
-    job) s named files new)
-    → IfSome held (λ files. LeavesRun (turns_for job s) (limits_of job) s named files new)
-leaves-job job s interval first second named held new i a b h =
+    job) s (came_to first second r) files new)
+    → IfSome held (λ files. LeavesRun (turns_for job s) (limits_of job) s (came_for job r) files new)
+leaves-job job s interval first second r held new i a b h =
     subst (λ x. IfSome held (λ files. LeavesRun (turns_from (first_slot s) x (file_name (project_of
-    job) Ckp0) (file_name (project_of job) Ckp1)) (limits_of job) s named files new)) i
+    job) Ckp0) (file_name (project_of job) Ckp1)) (limits_of job) s (came_for job r) files new)) i
     (subst (λ x. IfSome held (λ files. LeavesRun (turns_from (first_slot s) interval x (file_name
-    (project_of job) Ckp1)) (limits_of job) s named files new)) a
+    (project_of job) Ckp1)) (limits_of job) s (came_to x (file_name (project_of job) Ckp1) r) files
+    new)) a
     (subst (λ x. IfSome held (λ files. LeavesRun (turns_from (first_slot s) interval first x)
-    (limits_of job) s named files new)) b h))
+    (limits_of job) s (came_to first x r) files new)) b h))
 
 -- ---- a run that did not finish
 -- it fails at a restart file alone
@@ -157,14 +182,19 @@ module _ (tool : Tool) (job : Job) (input : Input) (stored : Stored) where
   the_plan = record { job = job; tool = tool; input = input; stored = stored }
 
   module _ (s : Start) (starts : StartsAs the_plan s) where
-    broke : (t : Traces) → BacksUp the_plan s None t.files_before t.files_after
-        → t.out_after ≡ t.out_before → (slot : Slot) → LeavesCut (Ok the_plan) t (part_of_slot slot)
-    broke t files out First = inr (record { start = s; starts = starts; files = files; out = out })
-    broke t files out Second = inr (record { start = s; starts = starts; files = files; out = out })
+    -- the name of a slot's file
+    abbrev named : Slot → List ℕ
+    named slot = name_of slot (file_name (project_of job) Ckp0) (file_name (project_of job) Ckp1)
+
+    broke : (slot : Slot) (t : Traces)
+        → BacksUp the_plan s (Err (named slot)) t.files_before t.files_after
+        → t.out_after ≡ t.out_before → LeavesCut (Ok the_plan) t (part_of_slot slot)
+    broke First t files out = inr (record { start = s; starts = starts; files = files; out = out })
+    broke Second t files out = inr (record { start = s; starts = starts; files = files; out = out })
 
     run_ends : (next : Slot) (e : RunEnd) → IfSome (end_of_error e) (StartComesTo (limits_of job) s)
         → (t : Traces)
-        → BacksUp the_plan s (end_of_error e) t.files_before t.files_after
+        → BacksUp the_plan s (ok_or (end_of_error e) (named next)) t.files_before t.files_after
         → t.out_after ≡ t.out_before → Ends (Ok the_plan) t (end_of_run next e)
     run_ends next (RunOverflow k (Row v)) c t files out = record {
       comes = (s, starts, c);
@@ -191,12 +221,15 @@ module _ (tool : Tool) (job : Job) (input : Input) (stored : Stored) where
         out = out;
       };
     }
-    run_ends next RunFailed c t files out = record { comes = tt; leaves = broke t files out next }
-    run_ends next RunMemory c t files out = record { comes = tt; leaves = (Ckp0, broke t files out First) }
+    run_ends next RunFailed c t files out = record { comes = tt; leaves = broke next t files out }
+    run_ends next RunMemory c t files out = record {
+      comes = tt;
+      leaves = (part_of_slot next, broke next t files out);
+    }
 
     run_over : (held new : Option Files) (told : Option (List ℕ)) (e : Stopped)
         → IfSome (end_of_error e.end) (StartComesTo (limits_of job) s)
-        → IfSome held (λ files. LeavesRun (turns_for job s) (limits_of job) s (end_of_error e.end)
+        → IfSome held (λ files. LeavesRun (turns_for job s) (limits_of job) s (came_for job (Err e))
         files new) → EndsOver (Ok the_plan) held new told told (end_of_stopped e)
     run_over None new told e c files = tt
     run_over (Some before) new told e c files = run_ends e.next e.end c (traces before new told
@@ -204,7 +237,7 @@ module _ (tool : Tool) (job : Job) (input : Input) (stored : Stored) where
 
     pub ends-run : (held new : Option Files) (told : Option (List ℕ)) (e : Stopped) (r : Result
         Totals End) → IfSome (end_of_error e.end) (StartComesTo (limits_of job) s)
-        → IfSome held (λ files. LeavesRun (turns_for job s) (limits_of job) s (end_of_error e.end)
+        → IfSome held (λ files. LeavesRun (turns_for job s) (limits_of job) s (came_for job (Err e))
         files new) → IsErrAnd r (λ y. y ≡ end_of_stopped e)
         → EndsOver (Ok the_plan) held new told told (end_of r)
     ends-run held new told e r c files err = at_error (EndsOver (Ok the_plan) held new told told) r
@@ -212,21 +245,21 @@ module _ (tool : Tool) (job : Job) (input : Input) (stored : Stored) where
 
     -- the run is finished, and memory ran out before its outputs
     memory_over : (held new : Option Files) (told : Option (List ℕ)) (end : LiftEnd)
-        → IfSome held (λ files. LeavesRun (turns_for job s) (limits_of job) s (Some end) files new)
+        → IfSome held (λ files. LeavesRun (turns_for job s) (limits_of job) s (Ok end) files new)
         → EndsOver (Ok the_plan) held new told told Memory
     memory_over None new told end files = tt
-    memory_over (Some before) new told end files = record {
-      comes = tt;
-      leaves = (
-        Ckp0,
-        broke
-            (traces before new told told) (broken_off (turns_for job s) (limits_of job) s end before new
-            files) refl First,
-      );
-    }
+    memory_over (Some before) new told end files =
+        let b : (next : Slot) × LeavesRun (turns_for job s) (limits_of job) s (Err (named next))
+        before new = broken_off (first_slot s) (interval_for job.tables job.backup) (file_name
+        (project_of job) Ckp0) (file_name (project_of job) Ckp1) (limits_of job) s end before new
+        files in
+        record {
+          comes = tt;
+          leaves = (part_of_slot b.0, broke b.0 (traces before new told told) b.1 refl);
+        }
 
     pub ends-memory : (held new : Option Files) (told : Option (List ℕ)) (end : LiftEnd) (r : Result
-        Totals End) → IfSome held (λ files. LeavesRun (turns_for job s) (limits_of job) s (Some end)
+        Totals End) → IfSome held (λ files. LeavesRun (turns_for job s) (limits_of job) s (Ok end)
         files new)
         → IsErrAnd r (λ y. y ≡ Memory) → EndsOver (Ok the_plan) held new told told (end_of r)
     ends-memory held new told end r files err = at_error (EndsOver (Ok the_plan) held new told told)
@@ -291,20 +324,20 @@ module _ (tool : Tool) (job : Job) (input : Input) (stored : Stored) (S : ToolSy
 
   abbrev LeavesFinished : Option Files → Option Files → Type 0
   LeavesFinished held mid = IfSome held (λ files. LeavesRun (turns_for job finishes.start)
-      (limits_of job) finishes.start (Some (finished finishes.rows used)) files mid)
+      (limits_of job) finishes.start (Ok (finished finishes.rows used)) files mid)
 
   abbrev BackedUp : Files → Files → Type 0
-  BackedUp before mid = BacksUp its_plan finishes.start (Some (finished finishes.rows used)) before (Some mid)
+  BackedUp before mid = BacksUp its_plan finishes.start (Ok (finished finishes.rows used)) before (Some mid)
 
   -- with the files that stand after the run
   with_files : (before : Files) (mid : Option Files) (P : Option Files → Type 0)
-      → BacksUp its_plan finishes.start (Some (finished finishes.rows used)) before mid
+      → BacksUp its_plan finishes.start (Ok (finished finishes.rows used)) before mid
       → ((files : Files) → BackedUp before files → P (Some files)) → P mid
   with_files before mid P left follows =
       let s : (files : Files) × (mid ≡ Some files) = stand (turns_for job finishes.start) (limits_of
       job) finishes.start (finished finishes.rows used) before mid left in
       subst P (sym s.1) (follows s.0 (subst (λ (m : Option Files). BacksUp its_plan finishes.start
-      (Some (finished finishes.rows used)) before m) s.1 left))
+      (Ok (finished finishes.rows used)) before m) s.1 left))
 
   cut_leaves : (before mid : Files) (new : Option Files) (told : Option (List ℕ)) (part : Part)
       → BackedUp before mid → IsCutAt (project_of job) (to_write job.tables outputs) part (Some mid) new

@@ -1,5 +1,5 @@
 -- What stands in the folder and on standard output at each end.
-use Rattle.std.specs.Prelude.{◌≡◌, ◌⊎◌, ℕ, List, [], ◌∷◌, Option, None, Some, Result, IsOkAnd}
+use Rattle.std.specs.Prelude.{◌≡◌, ◌⊎◌, ℕ, List, [], ◌∷◌, true, Option, Some, Result, Ok, Err, IsOkAnd}
 use Rattle.std.specs.Option.{option_map}
 use Rattle.std.specs.Io.KnownBytes.{append_known}
 use Rattle.outside.specs.Files.{Files}
@@ -17,7 +17,7 @@ use Rattle.tool_top.specs.declared.ends.Part.TheVariants.{Ckp0, Ckp1, Gra, Hil, 
 use Rattle.tool_top.specs.declared.ends.End.{End}
 use Rattle.tool_top.specs.declared.ends.End.TheVariants.{Done, Overflow, Pairs, Rows, Outside, Memory}
 use Rattle.tool_top.specs.Names.{file_name}
-use Rattle.tool_top.specs.Plan.{Plan, project_of, interval_for}
+use Rattle.tool_top.specs.Plan.{Plan, project_of, interval_for, resumes}
 use Rattle.tool_top.specs.Outputs.{OutputFile, to_write, written_all, rows_in, norms_in}
 use Rattle.tool_top.specs.Expected.{limits_of, StartsAs, Finishes}
 use Rattle.tool_top.specs.Summary.{summary_of}
@@ -41,10 +41,10 @@ abbrev pub turns_for : Job → Start → Turns
 turns_for job start = turns_from (first_slot start) (interval_for job.tables job.backup)
     (file_name (project_of job) Ckp0) (file_name (project_of job) Ckp1)
 
--- the files that the plan's run leaves, all its backups among them, where it comes to this end; where none is
--- named, those of the first norms that it closes, of which the last may be torn
-abbrev pub BacksUp : Plan → Start → Option LiftEnd → Files → Option Files → Type 0
-BacksUp p start named before after = LeavesRun (turns_for p.job start) (limits_of p.job) start named
+-- the files that the plan's run leaves, all its backups among them, where it comes to this end; where it broke off, those
+-- of the first norms that it closes, and the next one, which goes to the file of this name, may be torn
+abbrev pub BacksUp : Plan → Start → Result LiftEnd (List ℕ) → Files → Option Files → Type 0
+BacksUp p start came before after = LeavesRun (turns_for p.job start) (limits_of p.job) start came
     before after
 
 -- the run came to this end, and nothing was written but its backups
@@ -52,15 +52,19 @@ pub record IsStopped (p : Plan) (t : Traces) (end : LiftEnd) : Type 0 where
   pub start : Start
   pub starts : StartsAs p start
   pub comes : StartComesTo (limits_of p.job) start end
-  pub files : BacksUp p start (Some end) t.files_before t.files_after
+  pub files : BacksUp p start (Ok end) t.files_before t.files_after
   pub out : t.out_after ≡ t.out_before
 
--- the run broke off, and nothing was written but backups
-pub record IsBrokenOff (p : Plan) (t : Traces) : Type 0 where
+-- the run broke off, nothing was written but backups, and this is the restart file of the next one
+pub record IsBrokenOff (p : Plan) (t : Traces) (part : Part) : Type 0 where
   pub start : Start
   pub starts : StartsAs p start
-  pub files : BacksUp p start None t.files_before t.files_after
+  pub files : BacksUp p start (Err (file_name (project_of p.job) part)) t.files_before t.files_after
   pub out : t.out_after ≡ t.out_before
+
+-- the run broke off at this restart file, or it was to be read, and nothing has changed
+abbrev pub IsCutInRestart : Plan → Traces → Part → Type 0
+IsCutInRestart p t part = ((resumes p.job ≡ true) × IsUntouched t) ⊎ IsBrokenOff p t part
 
 -- ---- output files
 -- the run is finished, all its backups are whole, all output files hold their texts, and all other
@@ -70,7 +74,7 @@ pub record HasWritten (p : Plan) (before : Files) (after : Option Files) : Type 
   pub outputs : List OutputFile
   pub finishes : Finishes p pairs outputs
   pub files : Files
-  pub backups : BacksUp p finishes.start (Some (finished finishes.rows pairs)) before (Some files)
+  pub backups : BacksUp p finishes.start (Ok (finished finishes.rows pairs)) before (Some files)
   pub whole : after ≡ Some (written_all (project_of p.job) (to_write p.job.tables outputs) files)
 
 -- and the summary was put
@@ -92,7 +96,7 @@ pub record IsCutInFile (p : Plan) (t : Traces) (part : Part) : Type 0 where
   pub outputs : List OutputFile
   pub finishes : Finishes p pairs outputs
   pub files : Files
-  pub backups : BacksUp p finishes.start (Some (finished finishes.rows pairs)) t.files_before (Some files)
+  pub backups : BacksUp p finishes.start (Ok (finished finishes.rows pairs)) t.files_before (Some files)
   pub cut : IsCutAt (project_of p.job) (to_write p.job.tables outputs) part (Some files) t.files_after
   pub out : t.out_after ≡ t.out_before
 
@@ -102,17 +106,17 @@ pub record IsCutInSummary (p : Plan) (t : Traces) : Type 0 where
   pub outputs : List OutputFile
   pub finishes : Finishes p pairs outputs
   pub files : Files
-  pub backups : BacksUp p finishes.start (Some (finished finishes.rows pairs)) t.files_before (Some files)
+  pub backups : BacksUp p finishes.start (Ok (finished finishes.rows pairs)) t.files_before (Some files)
   pub whole : t.files_after ≡ Some (written_all (project_of p.job) (to_write p.job.tables outputs) files)
   pub out : MayPut (summary_of p.job (rows_in outputs) pairs (norms_in outputs)) t.out_before t.out_after
 
 -- ---- all ends
 -- what a fault of this part leaves: of an output file, a prefix of its text may stand there; of
--- standard output, a prefix of the summary; of a restart file, the backups before it, or nothing
--- where it was to be read; of an input file, nothing has changed
+-- standard output, a prefix of the summary; of a restart file, the backups before it and a prefix
+-- of its text, or nothing where it was to be read; of an input file, nothing has changed
 abbrev pub LeavesCut : Result Plan End → Traces → Part → Type 0
-LeavesCut plan t Ckp0 = IsUntouched t ⊎ IsOkAnd plan (λ p. IsBrokenOff p t)
-LeavesCut plan t Ckp1 = IsUntouched t ⊎ IsOkAnd plan (λ p. IsBrokenOff p t)
+LeavesCut plan t Ckp0 = IsOkAnd plan (λ p. IsCutInRestart p t Ckp0)
+LeavesCut plan t Ckp1 = IsOkAnd plan (λ p. IsCutInRestart p t Ckp1)
 LeavesCut plan t Gra = IsOkAnd plan (λ p. IsCutInFile p t Gra)
 LeavesCut plan t Hil = IsOkAnd plan (λ p. IsCutInFile p t Hil)
 LeavesCut plan t Zhom = IsOkAnd plan (λ p. IsCutInFile p t Zhom)

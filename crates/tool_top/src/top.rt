@@ -21,7 +21,7 @@ ghost use Rattle.tool_top.specs.Messages.{Speaks};
 ghost use Rattle.tool_top.specs.Summary.{Tells, code_of};
 ghost use Rattle.tool_top.specs.Solved.{Solves};
 ghost use Rattle.tool_top.specs.Left.{HasWritten, Leaves, turns_for};
-ghost use Rattle.tool_top.specs.Inside.Ends.{Ends, Asks, FindsStartOf, end_of, HasSinkCause};
+ghost use Rattle.tool_top.specs.Inside.Ends.{Ends, Asks, FindsStartOf, came_for, end_of, HasSinkCause};
 ghost use Rattle.tool_top.specs.Inside.Names.{AreRestartNames};
 ghost use Rattle.tool_top.specs.Inside.Writing.{outputs_of, CutsTo, TellsOf};
 
@@ -151,7 +151,7 @@ fn run_job<R: Threads + Sync, F: Folder, G: Gate + Sync>(
     ensures rows { IsDefinedStart start → IfOk result HasAllSolutions }
     ensures sound { IfOk result (IsSoundFrom start) }
     ensures leaves { IfSome (F.held folder.old) (λ files.
-        LeavesRun (turns_for job.now start) (limits_of job.now) start (named_end result) files (F.held folder.new)) }
+        LeavesRun (turns_for job.now start) (limits_of job.now) start (came_for job.now result) files (F.held folder.new)) }
     ensures apart { IsSome job.now.tables → folder.new ≡ folder.old }
     ensures cause { HasStoppedCause (F.faults folder.old) (F.faults folder.new) result }
 {

@@ -1,11 +1,14 @@
 -- The ends of lower layers as ends of a command.
-use Rattle.std.specs.Prelude.{◌≡◌, ◌≤◌, ℕ, Bool, true, false, Option, None, Some, Result, Ok, Err}
+use Rattle.std.specs.Prelude.{◌≡◌, ◌≤◌, ℕ, List, Bool, true, false, Option, None, Some, Result, Ok, Err}
 use Rattle.outside.specs.Causes.{Rose}
 use Rattle.outside.specs.declared.ends.PutEnd.{PutEnd}
 use Rattle.outside.specs.declared.ends.PutEnd.TheVariants.{Failed, Memory as PutMemory}
 use Rattle.lift_run.specs.declared.ends.RunEnd.{RunEnd}
 use Rattle.lift_core.specs.Systems.{ToolSystem}
+use Rattle.lift_core.specs.Ends.{End as LiftEnd}
+use Rattle.stage_store.specs.declared.stage.Finish.{Finish}
 use Rattle.backups.specs.Starts.{Stored, FindsStart}
+use Rattle.backups.specs.Standing.{came_to}
 use Rattle.backups.specs.declared.starts.Start.{Start}
 use Rattle.backups.specs.declared.starts.Start.TheVariants.{Fresh}
 use Rattle.backups.specs.declared.running.Stopped.{Stopped}
@@ -19,10 +22,12 @@ use Rattle.tool_words.specs.declared.jobs.Job.{Job}
 use Rattle.tool_words.specs.declared.jobs.WordEnd.{WordEnd}
 use Rattle.tool_words.specs.declared.jobs.WordEnd.TheVariants.{Usage as NoForm, Memory as NoMemory}
 use Rattle.tool_top.specs.declared.ends.Part.{Part}
+use Rattle.tool_top.specs.declared.ends.Part.TheVariants.{Ckp0, Ckp1}
 use Rattle.tool_top.specs.declared.ends.End.{End}
 use Rattle.tool_top.specs.declared.ends.End.TheVariants.{Done, Usage, BadRestart, Overflow, Pairs, Rows, Outside, Memory}
 use Rattle.tool_top.specs.declared.ends.Totals.{Totals}
-use Rattle.tool_top.specs.Plan.{Plan, part_of, part_of_slot, answer_of}
+use Rattle.tool_top.specs.Names.{file_name}
+use Rattle.tool_top.specs.Plan.{Plan, part_of, part_of_slot, answer_of, project_of}
 use Rattle.tool_top.specs.Expected.{ComesTo}
 use Rattle.tool_top.specs.Left.{Traces, Leaves}
 
@@ -52,6 +57,10 @@ end_of_run next RunMemory = Memory
 
 abbrev pub end_of_stopped : Stopped → End
 end_of_stopped s = end_of_run s.next s.end
+
+-- what the run of a job came to, where it broke off with the name of the restart file of its next backup
+abbrev pub came_for : Job → Result Finish Stopped → Result LiftEnd (List ℕ)
+came_for job result = came_to (file_name (project_of job) Ckp0) (file_name (project_of job) Ckp1) result
 
 -- the words are refused
 abbrev pub end_of_words : WordEnd → End
