@@ -4,6 +4,7 @@
 mod class;
 mod counting;
 mod growing;
+mod judge;
 pub mod laws;
 mod left;
 mod lifting;

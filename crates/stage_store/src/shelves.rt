@@ -157,6 +157,11 @@ impl Shelves {
         self.horizon
     }
 
+    /// Whether a quarter of the room is taken.
+    pub fn are_filling(&self) -> bool {
+        self.count >= self.room / 4
+    }
+
     /// The pairs on the shelf of a norm.
     pub fn at(&self, norm: u64) -> &[KeptPair]
         requires { length self.now.shelves.items ≡ 256 }

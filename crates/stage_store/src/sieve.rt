@@ -18,6 +18,7 @@ ghost use Rattle.stage_store.specs.Shelves.{IsKept, Stay};
 ghost use Rattle.stage_store.specs.Sieve.{HasNoNewSumBy, IsSiftedBy, AreSiftedBy, AreSifted, IsGroup, AreGroups, IsSized, AreSized, IsDead, IsTable, IsSieveTo, IsSieve, IsNewSieve, IsRoom, AreAsked, AreReads, AreNormed, AreWide, pair_by};
 
 use crate::growing::{has_sign, norm_of};
+use crate::judge::Judge;
 use crate::left::Left;
 use crate::lines::{Lines, take_said};
 use crate::marks::{fill_bars, fill_reached};
@@ -80,6 +81,7 @@ pub struct Sieve {
     minus: Table,
     /// The pairs that may have an irreducible sum.
     shelves: Shelves,
+    judge: Judge,
 }
 
 /// The pair of a row and another, where the first one's last entry is above 0 or below it.
@@ -124,18 +126,81 @@ fn keep_rows(
     shelves.keep(pair_of(positive, one + two, i, j))
 }
 
+/// Whether the pair of a row and another is known to have no irreducible sum, by their sum.
+fn is_judged(
+    judge: &mut Judge,
+    system: &System,
+    listed: &Pool,
+    tree: &Tree,
+    positive: bool,
+    i: u32,
+    j: u32,
+    filling: bool,
+) -> bool
+    requires indexed { HoldsRows tree.now listed.now }
+    requires width { listed.now.width ≡ width system.now.equations + 1 }
+    requires norms { AreNormed listed.now.rows }
+    requires one { i < length listed.now.rows }
+    requires two { j < length listed.now.rows }
+    ensures { IsTrue result → HasNoNewSumBy positive system.now.equations listed.now.rows i j }
+{
+    if positive {
+        judge.knows_none(system, listed, tree, i, j, filling)
+    } else {
+        judge.knows_none(system, listed, tree, j, i, filling)
+    }
+}
+
+/// Sifts the pair of a row and another.
+fn sift_pair(
+    shelves: &mut Shelves,
+    judge: &mut Judge,
+    system: &System,
+    listed: &Pool,
+    tree: &Tree,
+    reaches: &[u64],
+    positive: bool,
+    i: u32,
+    j: u32,
+) -> Result<(), AllocError>
+    requires indexed { HoldsRows tree.now listed.now }
+    requires count { length shelves.old.shelves.items ≡ 256 }
+    requires reaches { AreReaches listed.now.rows reaches.now }
+    requires reach_count { length reaches.now ≤ length listed.now.rows }
+    requires width { listed.now.width ≡ width system.now.equations + 1 }
+    requires norms { AreNormed listed.now.rows }
+    requires one { i < length reaches.now }
+    requires two { j < length reaches.now }
+    ensures count { length shelves.new.shelves.items ≡ 256 }
+    ensures stay { Stay shelves.old shelves.new }
+    ensures sifted { OnOk result (IsSiftedBy positive system.now.equations listed.now.rows shelves.new i j) }
+{
+    let width = system.width() as usize;
+    if is_passed(listed, width, reaches, positive, i, j) {
+        return Ok(());
+    }
+    let filling = shelves.are_filling();
+    if is_judged(judge, system, listed, tree, positive, i, j, filling) {
+        return Ok(());
+    }
+    keep_rows(shelves, listed, width, positive, i, j)
+}
+
 /// Sifts the pairs of a row with at most 64 others, each of which has a bit of `dead` that tells, where it is set,
 /// that the pair has no irreducible sum.
 fn sift_group(
     shelves: &mut Shelves,
+    judge: &mut Judge,
     system: &System,
     listed: &Pool,
+    tree: &Tree,
     reaches: &[u64],
     positive: bool,
     i: u32,
     others: &[u32],
     dead: u64,
 ) -> Result<(), AllocError>
+    requires indexed { HoldsRows tree.now listed.now }
     requires count { length shelves.old.shelves.items ≡ 256 }
     requires reaches { AreReaches listed.now.rows reaches.now }
     requires reach_count { length reaches.now ≤ length listed.now.rows }
@@ -154,15 +219,13 @@ fn sift_group(
     if dead == u64::MAX {
         return Ok(());
     }
-    let width = system.width() as usize;
     for k in 0..others.len() {
         if (dead >> k) & 1 == 1 {
             continue;
         }
-        if is_passed(listed, width, reaches, positive, i, others[k]) {
-            continue;
-        }
-        keep_rows(shelves, listed, width, positive, i, others[k])?;
+        sift_pair(
+            shelves, judge, system, listed, tree, reaches, positive, i, others[k],
+        )?;
     }
     Ok(())
 }
@@ -387,8 +450,10 @@ impl Room {
 /// looked at. The lines that are read for the row are at these places.
 fn sift_row(
     shelves: &mut Shelves,
+    judge: &mut Judge,
     system: &System,
     listed: &Pool,
+    tree: &Tree,
     reaches: &[u64],
     positive: bool,
     i: u32,
@@ -396,6 +461,7 @@ fn sift_row(
     bar_reads: &[usize],
     reach_reads: &[usize],
 ) -> Result<(), AllocError>
+    requires indexed { HoldsRows tree.now listed.now }
     requires count { length shelves.old.shelves.items ≡ 256 }
     requires reaches { AreReaches listed.now.rows reaches.now }
     requires reach_count { length reaches.now ≤ length listed.now.rows }
@@ -424,7 +490,9 @@ fn sift_row(
         let to = table.ids.len().min(from + 64);
         let dead = lines.dead(bar_reads, reach_reads);
         let others = &table.ids[from..to];
-        sift_group(shelves, system, listed, reaches, positive, i, others, dead)?;
+        sift_group(
+            shelves, judge, system, listed, tree, reaches, positive, i, others, dead,
+        )?;
     }
     Ok(())
 }
@@ -432,8 +500,10 @@ fn sift_row(
 /// Sifts the pairs of the row at a place of one table with the rows of the other anew, by what the tables tell.
 fn sift_row_anew(
     shelves: &mut Shelves,
+    judge: &mut Judge,
     system: &System,
     listed: &Pool,
+    tree: &Tree,
     reaches: &[u64],
     plus: &Table,
     minus: &Table,
@@ -441,6 +511,7 @@ fn sift_row_anew(
     bar_reads: &mut Vec<usize>,
     reach_reads: &mut Vec<usize>,
 ) -> Result<(), AllocError>
+    requires indexed { HoldsRows tree.now listed.now }
     requires count { length shelves.old.shelves.items ≡ 256 }
     requires reaches { AreReaches listed.now.rows reaches.now }
     requires reach_count { length reaches.now ≤ length listed.now.rows }
@@ -460,8 +531,10 @@ fn sift_row_anew(
     group.bars.take_marked(true, k % 64, reach_reads)?;
     sift_row(
         shelves,
+        judge,
         system,
         listed,
+        tree,
         reaches,
         true,
         plus.ids[k],
@@ -475,12 +548,15 @@ fn sift_row_anew(
 fn sift_tables(
     alloc: Global,
     shelves: &mut Shelves,
+    judge: &mut Judge,
     system: &System,
     listed: &Pool,
+    tree: &Tree,
     reaches: &[u64],
     plus: &Table,
     minus: &Table,
 ) -> Result<(), AllocError>
+    requires indexed { HoldsRows tree.now listed.now }
     requires count { length shelves.old.shelves.items ≡ 256 }
     requires reaches { AreReaches listed.now.rows reaches.now }
     requires reach_count { length reaches.now ≤ length listed.now.rows }
@@ -499,8 +575,10 @@ fn sift_tables(
     for k in 0..plus.ids.len() {
         sift_row_anew(
             shelves,
+            judge,
             system,
             listed,
+            tree,
             reaches,
             plus,
             minus,
@@ -513,8 +591,9 @@ fn sift_tables(
 }
 
 impl Sieve {
-    /// Nothing was sifted yet.
-    pub fn new(alloc: Global) -> Result<Sieve, AllocError>
+    /// Nothing was sifted yet. Rows have so many entries before the last.
+    pub fn new(alloc: Global, width: usize) -> Result<Sieve, AllocError>
+        requires { width ≤ 129 }
         ensures { IfOk result IsNewSieve }
     {
         Ok(Sieve {
@@ -523,6 +602,7 @@ impl Sieve {
             plus: Table::new(alloc),
             minus: Table::new(alloc),
             shelves: Shelves::new(alloc)?,
+            judge: Judge::new(alloc, width)?,
         })
     }
 
@@ -544,9 +624,11 @@ impl Sieve {
         alloc: Global,
         system: &System,
         listed: &Pool,
+        tree: &Tree,
         norm: u64,
         next: u64,
     ) -> Result<(), AllocError>
+        requires indexed { HoldsRows tree.now listed.now }
         requires width { listed.now.width ≡ width system.now.equations + 1 }
         requires few { length listed.now.rows ≤ 2 ^ 21 }
         requires norms { AreNormed listed.now.rows }
@@ -562,8 +644,10 @@ impl Sieve {
         sift_tables(
             alloc,
             &mut self.shelves,
+            &mut self.judge,
             system,
             listed,
+            tree,
             &self.reaches,
             &self.plus,
             &self.minus,
@@ -591,7 +675,7 @@ impl Sieve {
         ensures shelves { length self.new.shelves.shelves.items ≡ 256 }
         ensures upto { OnOk result (IsSieveTo system.now.equations listed.now.rows norm (length listed.now.rows) self.new) }
     {
-        self.renew(alloc, system, listed, norm, next)?;
+        self.renew(alloc, system, listed, tree, norm, next)?;
         self.shelves.close(norm, listed.len());
         self.sift_rows(alloc, system, listed, tree, norm)
     }
@@ -737,8 +821,10 @@ impl Sieve {
         self.reaches.push(reach)?;
         sift_row(
             &mut self.shelves,
+            &mut self.judge,
             system,
             listed,
+            tree,
             &self.reaches,
             true,
             i,
@@ -781,8 +867,10 @@ impl Sieve {
         self.reaches.push(reach)?;
         sift_row(
             &mut self.shelves,
+            &mut self.judge,
             system,
             listed,
+            tree,
             &self.reaches,
             false,
             i,

@@ -231,6 +231,7 @@ impl Stage {
         let waiting = extended(alloc, &system, number, &solutions)?;
         let listed = Pool::new(alloc, system.width() + 1);
         let tree = Tree::new(alloc, system.width() + 1);
+        let width = system.width() as usize;
         let mut stage = Stage {
             alloc,
             system,
@@ -244,7 +245,7 @@ impl Stage {
             waited: 0,
             plus: Vec::new(alloc),
             minus: Vec::new(alloc),
-            sieve: Sieve::new(alloc)?,
+            sieve: Sieve::new(alloc, width)?,
             following: Following::unknown(),
             tally: Tally::new(alloc)?,
             ahead: Opened::unknown(alloc),
@@ -273,6 +274,7 @@ impl Stage {
         ensures used { IfOk result (λ s. used_of s ≡ used) }
     {
         let before = used - pairs_within(&listed, norm);
+        let width = system.width() as usize;
         let mut stage = Stage {
             alloc,
             system,
@@ -286,7 +288,7 @@ impl Stage {
             listed,
             waiting,
             waited: 0,
-            sieve: Sieve::new(alloc)?,
+            sieve: Sieve::new(alloc, width)?,
             following: Following::unknown(),
             tally: Tally::new(alloc)?,
             ahead: Opened::unknown(alloc),
