@@ -91,28 +91,50 @@ impl Bucket {
             (λ id. IsBelowAt self.now pool.now.rows z.now bounds.now id.0) }
     {
         let count = self.rows.len();
-        let mut k = 0;
-        while k < count {
-            if k % 64 == 0 && rules_out(&self.blocks, k / 64, bounds) {
-                k += 64;
+        let mut from = 0;
+        while from < count {
+            if from % 64 == 0 && rules_out(&self.blocks, from / 64, bounds) {
+                from += 64;
                 continue;
             }
-            if k % 8 == 0 && rules_out(&self.eights, k / 8, bounds) {
-                k += 8;
-                continue;
-            }
-            let filed = &self.rows[k];
-            if bounds.admit(&filed.word()) {
-                visits.add();
-                let id = RowId(filed.place);
-                if below(pool.row(id), z) {
+            let to = count.min(from + 8);
+            if !rules_out(&self.eights, from / 8, bounds) {
+                if let Some(id) = find_among(&self.rows[from..to], pool, z, bounds, visits) {
                     return Some(id);
                 }
             }
-            k += 1;
+            from = to;
         }
         None
     }
+}
+
+/// The place of one of these rows that is below z and stands before the end.
+///
+/// Counts a visit for each row that is compared with z.
+fn find_among(
+    rows: &[Filed],
+    pool: &Pool,
+    z: &[i64],
+    bounds: &Bounds,
+    visits: &mut Visits,
+) -> Option<RowId>
+    requires marked { AllByRecursion (IsMarked pool.now.rows z.now bounds.now) rows.now }
+    requires width { pool.now.width ≡ length z.now }
+    ensures { MatchOption result
+        (AreNoneBelow rows.now pool.now.rows z.now bounds.now (length rows.now))
+        (λ id. IsBelowAt rows.now pool.now.rows z.now bounds.now id.0) }
+{
+    for filed in rows {
+        if bounds.admit(&filed.word()) {
+            visits.add();
+            let id = RowId(filed.place);
+            if below(pool.row(id), z) {
+                return Some(id);
+            }
+        }
+    }
+    None
 }
 
 /// Whether there is a word for the group of this number, and it rules out that a row of it is looked for.
