@@ -13,8 +13,8 @@ ghost use Rattle.stage_store.specs.Found.{IsReduced};
 ghost use Rattle.stage_store.specs.Indexed.{HoldsRows};
 ghost use Rattle.stage_store.specs.Sieve.{AreNormed, HasNoNewSum};
 
-use crate::reach::find_listed;
 use crate::growing::norm_of;
+use crate::reach::find_listed;
 use int_vector::{LARGEST, add_into, below, conformal};
 use lift_core::System;
 use reduce_tree::Tree;
