@@ -1,3 +1,5 @@
+-- Where a listed row is below z, one of at most half of z's measure is; and norm and size of an entry are such measures.
+-- All three stand whole in `SmallHalf`.
 use Rattle.lift_core.proofs.SmallHalf.{halves_decide, norms_add, sizes_add}
 use Rattle.lift_core.proofs.halves.halves_law.Goals as goal
 

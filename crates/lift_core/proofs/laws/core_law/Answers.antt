@@ -1,3 +1,5 @@
+-- In a complete run each block of the norm is drawn once and booked once, so the book holds each number once; and the
+-- blocks together hold all pairs, so the sums of the book are all sums.
 use Rattle.lift_core.proofs.PureMachine.{each_number_once, each_once, each_contained_in_book, sums_of_all}
 use Rattle.lift_core.proofs.laws.core_law.Goals as goal
 

@@ -1,3 +1,5 @@
+-- What was read is a front of the file, and each turn makes it longer or finds the end. It is the whole file where the
+-- length that was told is the file's: whether the end is found, the length is reached, or the turns are used up.
 use Rattle.std.proofs.Common.{◌≡◌, ◌≤◌, inl, inr, length, ap, arith, ◌∙◌}
 use Rattle.outside.proofs.ReadPieces.{front_step, front_whole, front_end, within_piece}
 use Rattle.outside.proofs.reading.read_bytes.Goals as goal

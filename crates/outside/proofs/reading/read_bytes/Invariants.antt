@@ -1,3 +1,5 @@
+-- The files are the same, no fault was taken back, and what was read is a front of the file, no longer than was told
+-- and after each turn longer.
 use Rattle.std.proofs.Common.{◌≡◌, ◌≤◌, length, IfSome}
 use Rattle.outside.specs.Files.{bytes_of}
 use Rattle.outside.proofs.ReadPieces.{IsFront}

@@ -1,3 +1,4 @@
+-- A read of no bytes tells that the file ends here; any other appends the bytes of the file that come next.
 use Rattle.std.proofs.Common.{◌≡◌, ◌≢◌, ◌++◌, length, take, IfSome, ap}
 use Rattle.outside.specs.Files.{bytes_of, ReadsFrom}
 use Rattle.outside.proofs.ReadPieces.{reads_more}

@@ -1,3 +1,4 @@
+-- Empty buckets come behind, so each bucket reads as before: one that is not there reads as empty.
 use Rattle.std.proofs.Common.{◌≡◌, ◌+◌, ◌-◌, ◌≤◌, ℕ, [], length, get_or, vec_len}
 use Rattle.reduce_tree.proofs.index.grow.Given as goal
 

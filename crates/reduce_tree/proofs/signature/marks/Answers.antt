@@ -1,3 +1,5 @@
+-- The marks so far are of the thresholds before the loop's level, which the size reaches; it ends at the first that it
+-- does not reach, or when all are reached.
 use Rattle.reduce_tree.proofs.Signatures.{marks_stopped, marks_more, marks_ended}
 use Rattle.reduce_tree.proofs.signature.marks.Goals as goal
 

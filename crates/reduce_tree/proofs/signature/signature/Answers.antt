@@ -1,3 +1,4 @@
+-- The signature is the marks of the columns so far with those of the columns that are left.
 use Rattle.std.proofs.Common.{◌≡◌, ◌∙◌, ap, sym, ◌+◌, drop, rules, get_or, SFits, w64, to_z-of_z}
 use Rattle.std.specs.Prelude.{bit_or, pos}
 use Rattle.reduce_tree.specs.Signatures.{entry_marks, signature_from}

@@ -1,3 +1,4 @@
+-- Zeros come behind: the numbers that were there stay.
 use Rattle.std.proofs.Common.{◌≡◌, ◌<◌, ◌≤◌, ◌-◌, ℕ, length, get_or, vec_len}
 use Rattle.reduce_tree.proofs.tier.fill.Given as goal
 

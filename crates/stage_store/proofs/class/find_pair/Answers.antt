@@ -1,3 +1,6 @@
+-- The classes before the loop's one have p less the rest of pairs. In the class where the rest falls, the rest is split
+-- by the number of second rows into the place of the first row and that of the second; and it does fall in one, since p
+-- is below the sum of all.
 use Rattle.std.proofs.Common.{ℕ, ◌+◌, ◌-◌, ◌*◌, ◌/◌, ◌%◌, ◌≤◌, ◌<◌, length, arith, get_or, ap, ap₂, sym, ◌∙◌, ◌≡◌, [], take}
 use Rattle.std.specs.Prelude.{List}
 use Rattle.std.specs.List.{sum_by}

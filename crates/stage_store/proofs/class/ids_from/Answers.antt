@@ -1,3 +1,4 @@
+-- Norms ascend, so the class of norm n is the one at the place or there is none.
 use Rattle.std.proofs.Common.{ℕ, arith, ap, sym, ◌∙◌, ◌≡◌}
 use Rattle.stage_store.specs.Classes.{norm_at, class_norm}
 use Rattle.stage_store.proofs.Classes.{class_at, IsPlaceFrom, ids_at-found, ids_at-missing, class_ids}

@@ -1,3 +1,4 @@
+-- The class at the first place whose norm is not below d + 1 has the least norm above d.
 use Rattle.std.proofs.Common.{ℕ, ◌+◌, ap, ◌∙◌, sym, subst, Some}
 use Rattle.stage_store.specs.Classes.{class_norm}
 use Rattle.stage_store.specs.Least.{IsLeastAbove, HasNorm}

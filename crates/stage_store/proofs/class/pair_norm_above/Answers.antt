@@ -1,3 +1,5 @@
+-- For a class of first rows the least partner is the least norm above what d leaves; the least of these sums so far is
+-- the least above d of the pairs whose first row is in a class that was seen.
 use Rattle.std.proofs.Common.{◌≡◌, ℕ, ◌+◌, ◌≤◌, ap, ◌∙◌, sym, Some}
 use Rattle.stage_store.specs.Classes.{norm_at, class_norm}
 use Rattle.stage_store.specs.Least.{lesser_lem}

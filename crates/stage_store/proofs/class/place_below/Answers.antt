@@ -1,3 +1,4 @@
+-- The class before the place has a norm below n, and with it, as norms ascend, all before it.
 use Rattle.std.proofs.Common.{ℕ, ◌<◌, ◌-◌, length, arith, inl, inr, ap, sym, ◌≡◌, subst}
 use Rattle.std.proofs.lemmas.Bool.{cases_eq}
 use Rattle.stage_store.specs.Classes.{norm_at, class_norm}

@@ -1,3 +1,4 @@
+-- Halving: as norms ascend, the norm in the middle decides for all on one side of it.
 use Rattle.std.proofs.Common.{ℕ, ◌≤◌, ◌<◌, length, arith, inl, inr, ap, sym, ◌≡◌, subst, ◌+◌, ◌-◌, ◌/◌}
 use Rattle.std.proofs.lemmas.Bool.{cases_eq}
 use Rattle.stage_store.specs.Classes.{norm_at, class_norm}

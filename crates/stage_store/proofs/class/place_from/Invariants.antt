@@ -1,3 +1,4 @@
+-- All norms before `low` are below n, and all from `high` on are not.
 use Rattle.std.proofs.Common.{ℕ, ◌-◌, ◌≤◌, ◌<◌, length}
 use Rattle.stage_store.specs.Classes.{norm_at}
 use Rattle.stage_store.proofs.class.place_from.Given as goal

@@ -1,3 +1,4 @@
+-- The first class onward whose norm is not below n: as norms ascend, none behind it is.
 use Rattle.std.proofs.Common.{ℕ, ◌≤◌, arith, inl, inr, ap, sym, ◌≡◌, subst}
 use Rattle.std.proofs.lemmas.Bool.{cases_eq}
 use Rattle.stage_store.specs.Classes.{norm_at, class_norm}

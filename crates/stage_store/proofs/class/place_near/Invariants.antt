@@ -1,3 +1,4 @@
+-- All norms before the place are below n.
 use Rattle.std.proofs.Common.{ℕ, ◌-◌, ◌≤◌, ◌<◌, length}
 use Rattle.stage_store.specs.Classes.{norm_at}
 use Rattle.stage_store.proofs.class.place_near.Given as goal

@@ -1,3 +1,4 @@
+-- The norm of a stage row is in range, so working it out never fails.
 use Rattle.std.proofs.Common.{◌≡◌, ◌+◌, ◌-◌, ◌≤◌, length, take, [], ap, arith}
 use Rattle.int_vector.specs.Vectors.{norm}
 use Rattle.lift_core.specs.Stages.{stage_norm}

@@ -1,3 +1,5 @@
+-- Rows ascend by norm, so going down from the last row the partners that fit are a front of the list that only grows:
+-- each row with a positive last entry adds those of the front that have a negative one.
 use Rattle.std.proofs.Common.{◌∙◌, ◌-◌, ap, sym, subst, arith}
 use Rattle.lift_core.specs.Stages.{has_positive_last}
 use Rattle.stage_store.specs.CountedPairs.{IsWithinReach, IsBeyondReach}

@@ -1,3 +1,4 @@
+-- Halving: as norms ascend, where the norm in the middle is above the most, all behind it are.
 use Rattle.std.proofs.Common.{◌+◌, ◌-◌, ◌/◌, arith}
 use Rattle.stage_store.proofs.CountedPairs.{norms_ascend}
 use Rattle.stage_store.proofs.counting.rows_within.Goals as goal

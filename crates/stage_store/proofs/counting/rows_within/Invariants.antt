@@ -1,3 +1,4 @@
+-- All rows from `high` on have a norm above the most.
 use Rattle.std.proofs.Common.{ℕ, [], ◌-◌, ◌≤◌, ◌<◌, length, slice_index_or}
 use Rattle.lift_core.specs.Stages.{stage_norm}
 use Rattle.stage_store.proofs.counting.rows_within.Given as goal

@@ -1,3 +1,5 @@
+-- The pool grows by all rows at once, and the tree by one place after another, so it holds the places up to the loop's.
+-- After a refusal both are cut to the rows that were held before.
 use Rattle.std.proofs.Common.{◌≡◌, ◌∙◌, ℕ, List, ◌++◌, ◌∷◌, [], length, take, refl, ap, sym, subst, arith}
 use Rattle.std.specs.Prelude.{ℤ}
 use Rattle.std.specs.List.{range_with_len}

@@ -1,3 +1,5 @@
+-- A step of a merge of two ascending lists: the lesser row is written, an equal one once, and when one list ends the
+-- rest of the other follows.
 use Rattle.std.proofs.Common.{◌++◌, ◌<◌, ◌∙◌, arith, length, take, drop}
 use Rattle.int_vector.specs.Vectors.{lex_cmp}
 use Rattle.stage_store.specs.Merge.{merged}

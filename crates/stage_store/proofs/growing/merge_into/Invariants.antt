@@ -1,3 +1,4 @@
+-- What is written, with the merge of what is left of both lists, is the merge of the whole.
 use Rattle.std.proofs.Common.{◌≡◌, ◌+◌, ◌-◌, ◌≤◌, ◌++◌, take, drop, length}
 use Rattle.int_vector.specs.Vectors.{lex_cmp}
 use Rattle.stage_store.specs.Merge.{merged}

@@ -1,3 +1,5 @@
+-- Each solution gets its product with the row as a last entry; the first whose product leaves the range is the one that
+-- is answered.
 use Rattle.std.proofs.Common.{◌≡◌, ◌∙◌, sym, refl, ap, arith, rules, subst, ◌<◌, ◌≤◌, length, Some, SFits, w64, to_z-of_z}
 use Rattle.std.specs.Prelude.{List, ℤ, nat_abs}
 use Rattle.std.proofs.lemmas.List.{append-nil}

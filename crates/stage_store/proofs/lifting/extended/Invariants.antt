@@ -1,3 +1,4 @@
+-- The first i solutions stand extended, and none of them has a product that leaves the range.
 use Rattle.std.proofs.Common.{◌≡◌, ◌+◌, ◌≤◌, take, length, None}
 use Rattle.std.specs.Prelude.{map}
 use Rattle.std.specs.List.{find}

@@ -1,3 +1,4 @@
+-- A row with last entry 0 adds its front to the solutions among the rows so far; any other adds none.
 use Rattle.std.proofs.Common.{◌≡◌, ◌∙◌, sym, ap, arith, ◌+◌, ◌-◌, length}
 use Rattle.row_pool.specs.Rows.{PoolValue}
 use Rattle.stage_store.proofs.FirstRows.{kept_more, kept_less}

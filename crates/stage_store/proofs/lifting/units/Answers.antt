@@ -1,3 +1,5 @@
+-- Of no rows the minimal solutions are the unit vectors and their negatives that obey signs and caps. They are tried in
+-- order, in one vector of zeros that has one entry set and cleared again.
 use Rattle.std.proofs.Common.{◌≡◌, ◌∙◌, sym, ap, arith, rules, subst, SFits, w64, to_z-of_z, to_z, of_z, ◌<◌, ◌+◌, ◌*◌, refl, length, length-append, ◌++◌, ◌∷◌, []}
 use Rattle.std.specs.Prelude.{List, ℤ}
 use Rattle.lift_core.specs.ToolSystems.{width}

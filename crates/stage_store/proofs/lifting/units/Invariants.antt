@@ -1,3 +1,4 @@
+-- The unit vectors with numbers below i that obey signs and caps are in the pool, and the vector in hand is zero again.
 use Rattle.std.proofs.Common.{◌≡◌, ◌+◌, ◌*◌, ◌≤◌, length, replicate, pos}
 use Rattle.stage_store.specs.UnitVectors.{AreUnitsBefore}
 use Rattle.stage_store.proofs.lifting.units.Given as goal

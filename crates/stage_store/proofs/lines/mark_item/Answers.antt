@@ -1,3 +1,4 @@
+-- The row's bit is set in one line more, and that line is one that is said of the item; the others are as before.
 use Rattle.std.proofs.Common.{◌≡◌, ◌∙◌, ◌+◌, ◌*◌, ◌/◌, ◌%◌, ◌<◌, ℕ, length, get_or, ap, sym, subst, subst₂, arith}
 use Rattle.std.proofs.lemmas.List.{length-set}
 use Rattle.stage_store.specs.Lines.{IsSaid, IsSaidLevel, MarksRow}

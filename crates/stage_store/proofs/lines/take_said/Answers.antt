@@ -1,3 +1,4 @@
+-- All places taken in are of lines that are said, and one more is.
 use Rattle.std.proofs.Common.{◌∙◌, ap, sym, subst, arith, List, ℕ}
 use Rattle.stage_store.specs.Lines.{AreSaid}
 use Rattle.stage_store.proofs.LineBits.{said_more}

@@ -1,3 +1,5 @@
+-- A row whose entry has the other sign bars every level, and so does one whose entry is at the cap; else it bars the
+-- levels from the least at which a listed row is near it.
 use Rattle.std.proofs.Common.{◌≡◌, ◌∙◌, ◌+◌, ◌<◌, ap, refl, sym, rules, arith, length, get_or, SFits, w64, to_z-of_z, None, false}
 use Rattle.std.specs.Prelude.{pos, IsTrue}
 use Rattle.stage_store.specs.Levels.{IsAgainst, IsOnSide, IsFull}

@@ -1,3 +1,4 @@
+-- The items written so far tell which lines bar, and one item more does.
 use Rattle.std.proofs.Common.{◌∙◌, true, arith}
 use Rattle.std.proofs.lemmas.List.{length-set}
 use Rattle.stage_store.specs.Levels.{BarsLine}

@@ -1,3 +1,4 @@
+-- The probe is the row with last entry 0 and a raised entry: where a listed row is below it, that row is near.
 use Rattle.std.proofs.Common.{subst, rules, set, get_or, SFits, w64, to_z-of_z, List, ℤ}
 use Rattle.std.specs.Prelude.{pos}
 use Rattle.stage_store.specs.Found.{IsReduced}

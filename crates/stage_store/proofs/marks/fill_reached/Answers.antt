@@ -1,3 +1,4 @@
+-- The items written so far tell which lines are reached, and one item more does.
 use Rattle.std.proofs.Common.{◌∙◌, false, arith}
 use Rattle.std.proofs.lemmas.List.{length-set}
 use Rattle.stage_store.specs.Levels.{ReachesLine}

@@ -1,3 +1,4 @@
+-- A listed row is near at the least level known so far, or none is known, which 8 says.
 use Rattle.std.proofs.Common.{◌≡◌, ◌≤◌, length}
 use Rattle.stage_store.specs.Levels.{IsNearOr}
 use Rattle.stage_store.proofs.marks.near_level.Given as goal

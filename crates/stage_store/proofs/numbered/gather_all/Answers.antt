@@ -1,3 +1,4 @@
+-- The rows gained so far are those of the numbers below `first`; a range more joins its own gains to them.
 use Rattle.std.proofs.Common.{◌∙◌, ◌+◌, ℕ, arith, ap, subst, sym, length, []}
 use Rattle.stage_store.specs.Numbered.{GainsNumbered}
 use Rattle.stage_store.proofs.NumberedSums.{gains_more, written_length}

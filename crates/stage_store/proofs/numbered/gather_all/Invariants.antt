@@ -1,3 +1,4 @@
+-- The rows hold exactly what the pairs with the numbers below `first` gain.
 use Rattle.std.proofs.Common.{◌≡◌, ◌≤◌, ◌+◌, ◌-◌, [], length}
 use Rattle.lift_core.specs.ToolSystems.{width}
 use Rattle.stage_store.specs.Numbered.{GainsNumbered}

@@ -1,3 +1,4 @@
+-- Halving: all open pairs before `low` have numbers below `first`.
 use Rattle.std.proofs.Common.{ℕ, ◌-◌, ◌≤◌, ◌<◌, length, slice_index_or}
 use Rattle.stage_store.specs.declared.opened.OpenPair.{OpenPair}
 use Rattle.stage_store.specs.Opened.{open_number}

@@ -1,3 +1,5 @@
+-- The numbers between those done and the pair's gain nothing, since none of them is open; then the pair's own gain
+-- comes.
 use Rattle.std.proofs.Common.{◌+◌, arith}
 use Rattle.stage_store.proofs.NumberedSums.{gains_nothing, gains_more, gains_gap}
 use Rattle.stage_store.proofs.numbered.take_open.Goals as goal

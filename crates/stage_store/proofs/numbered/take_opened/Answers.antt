@@ -1,3 +1,5 @@
+-- Open pairs are in order of their numbers, and only they have irreducible sums: so the numbers between one and the
+-- next gain nothing, and at the end neither do those up to the last of the range.
 use Rattle.std.proofs.Common.{◌+◌, ◌<◌, ◌∙◌, length, arith, inl, inr}
 use Rattle.stage_store.proofs.NumberedSums.{gains_more, gains_gap, gap_before, gap_at, before_more, open_at, same_open}
 use Rattle.stage_store.proofs.numbered.take_opened.Goals as goal

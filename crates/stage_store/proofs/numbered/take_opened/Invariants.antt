@@ -1,3 +1,5 @@
+-- The rows hold what the numbers from `first` up to those done gain, the open pairs before k are done, and there is a
+-- row's room for each number that is left.
 use Rattle.std.proofs.Common.{◌≡◌, ℕ, ◌+◌, ◌-◌, ◌≤◌, ◌<◌, length, slice_index_or}
 use Rattle.lift_core.specs.ToolSystems.{width}
 use Rattle.stage_store.specs.declared.opened.OpenPair.{OpenPair}

@@ -1,3 +1,5 @@
+-- A pair's sum is left out where it has none, where it was found before, or where a listed row is below it; else it is
+-- irreducible, and is what its number gains.
 use Rattle.std.proofs.Common.{refl, arith}
 use Rattle.stage_store.proofs.NumberedSums.{reduced, found_before, pushed}
 use Rattle.stage_store.proofs.Numbering.{pair_placed}

@@ -1,3 +1,4 @@
+-- The gains of the numbers so far and that of the next one are the gains of one number more.
 use Rattle.std.proofs.Common.{◌≡◌, ℕ, ◌+◌, ◌∙◌, arith, subst}
 use Rattle.stage_store.specs.Numbered.{GainsNumbered}
 use Rattle.stage_store.proofs.NumberedSums.{gains_more}

@@ -1,3 +1,4 @@
+-- The rows hold what the first k numbers of the range gain, and there is a row's room for each that is left.
 use Rattle.std.proofs.Common.{◌≡◌, ◌≤◌, ◌+◌, length}
 use Rattle.lift_core.specs.ToolSystems.{width}
 use Rattle.stage_store.specs.Numbered.{GainsNumbered}

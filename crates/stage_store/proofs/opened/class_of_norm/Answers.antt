@@ -1,3 +1,5 @@
+-- Norms ascend, so where the class at the first place that is not below n has another norm, or there is none, no class
+-- has norm n.
 use Rattle.std.proofs.Common.{ℕ, arith, ap, ◌∙◌}
 use Rattle.stage_store.specs.Classes.{class_norm}
 use Rattle.stage_store.proofs.Classes.{class_at, IsPlaceFrom}

@@ -1,3 +1,5 @@
+-- The number of a pair is the number of the first pair of its class and its place within the class; where either row is
+-- in no class of that norm, the pair has none.
 use Rattle.std.proofs.Common.{ℕ, List, ap, sym, refl, ◌∙◌, ◌≡◌, ◌-◌, subst, get_or}
 use Rattle.stage_store.specs.Classes.{ids_at}
 use Rattle.stage_store.specs.Opened.{AreAscending}

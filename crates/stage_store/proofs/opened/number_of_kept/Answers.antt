@@ -1,3 +1,4 @@
+-- A kept pair of another norm, or of rows that are not listed, has no number at norm e.
 use Rattle.std.proofs.Common.{◌∙◌, ap, arith}
 use Rattle.lift_core.specs.Stages.{stage_norm, has_positive_last}
 use Rattle.stage_store.proofs.Opening.{first_inside, not_numbered, match_both}

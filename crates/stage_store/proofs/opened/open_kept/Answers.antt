@@ -1,3 +1,4 @@
+-- The first k kept pairs are opened: the next comes with its number, or has none and is left out.
 use Rattle.std.proofs.Common.{◌≡◌, ◌∙◌, ◌+◌, ◌++◌, ◌∷◌, [], ap, sym, subst, take, get_or, refl, List}
 use Rattle.std.proofs.lemmas.List.{take_more, take_all}
 use Rattle.stage_store.specs.declared.sieve.KeptPair.{KeptPair}

@@ -1,3 +1,4 @@
+-- Sorting by numbers changes the order alone, so what was opened is opened still, and the numbers ascend.
 use Rattle.std.proofs.Common.{rules}
 use Rattle.std.proofs.lemmas.List.Sorted.{IsNonDecreasingBy-from_sort_by_key}
 use Rattle.stage_store.specs.Opened.{open_number}

@@ -1,3 +1,4 @@
+-- The number at which a class starts is the sum of the pairs of those before it.
 use Rattle.std.proofs.Common.{ℕ, arith, ap, take, length, length-append, ◌∷◌, []}
 use Rattle.std.specs.List.{sum_by}
 use Rattle.std.proofs.lemmas.Grind.{common_steps}

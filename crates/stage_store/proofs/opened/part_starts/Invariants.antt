@@ -1,3 +1,4 @@
+-- The total is the number of the pairs of the classes before this one, and each of those has its start written.
 use Rattle.std.proofs.Common.{◌≡◌, ◌<◌, ℕ, take, length, slice_index_or}
 use Rattle.std.specs.List.{sum_by}
 use Rattle.stage_store.specs.Classes.{part_size}

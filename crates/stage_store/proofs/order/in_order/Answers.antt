@@ -1,3 +1,5 @@
+-- The rows of both pools are taken in and put in order, each once: members and widths stay, so the pool made of them is
+-- the ordered list of both.
 use Rattle.std.proofs.Common.{◌∙◌, ◌++◌, ap, sym, subst}
 use Rattle.std.specs.List.{Contains}
 use Rattle.lift_core.specs.Inside.OrderedRows.{rows_behind}

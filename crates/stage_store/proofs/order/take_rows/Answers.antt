@@ -1,3 +1,4 @@
+-- The rows so far are those taken in before and the first i of the pool, and each of them fits.
 use Rattle.std.proofs.Common.{◌∙◌, sym, ap, subst, length, ℤ, List, [], arith, All}
 use Rattle.row_pool.specs.Rows.{InRange}
 use Rattle.std.specs.Prelude.{slice_index_or}

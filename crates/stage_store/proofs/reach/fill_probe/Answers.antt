@@ -1,3 +1,4 @@
+-- The copy of the row with its last entry set against the sign is the row with that reach.
 use Rattle.std.proofs.Common.{◌≡◌, ◌∙◌, ◌-◌, ap₂, arith, rules, set, get_or, length, SFits, w64, to_z-of_z, List, ℤ}
 use Rattle.std.specs.Prelude.{pos}
 use Rattle.stage_store.specs.Reaches.{entry_against}

@@ -1,3 +1,5 @@
+-- The least number that was tried with success is a reach of the row, or none was found; the bounds of the halving stay
+-- in range.
 use Rattle.std.proofs.Common.{◌≡◌, ◌≤◌, length}
 use Rattle.stage_store.specs.Reaches.{IsReachOr}
 use Rattle.stage_store.proofs.reach.reach_of.Given as goal

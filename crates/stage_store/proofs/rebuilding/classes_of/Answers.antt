@@ -1,3 +1,5 @@
+-- Rows of one norm stand together, so the classes are made group by group: those so far are the classes of the rows
+-- before the place.
 use Rattle.std.proofs.Common.{◌∙◌, ℕ, List, ap₂, sym, subst, arith}
 use Rattle.stage_store.specs.Classes.{ClassValue, sign_test, with_class}
 use Rattle.stage_store.proofs.ClassesByNorm.{AreClassesBefore, IsGroup}

@@ -1,3 +1,4 @@
+-- The places filed so far are those from 0 up to i, in order.
 use Rattle.std.proofs.Common.{◌∙◌, ℕ, List, ◌++◌, ◌∷◌, [], ap, sym, arith}
 use Rattle.std.specs.List.{range_with_len}
 use Rattle.stage_store.proofs.Indexed.{range_more}

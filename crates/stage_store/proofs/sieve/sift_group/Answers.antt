@@ -1,3 +1,5 @@
+-- A pair is passed over where its bit tells that it has no new sum, where its norm is closed or from the horizon on, or
+-- where a reach shuts it out; else it is kept. So each pair of the group is sifted, one after another.
 use Rattle.std.proofs.Common.{◌≡◌, ◌∙◌, ◌<◌, sym, refl, inl, inr, slice_index_or, length, ap, arith}
 use Rattle.std.specs.Int.{bit_at}
 use Rattle.std.proofs.lemmas.Nat.Bits.{shr_and_one, bit_at_ones}

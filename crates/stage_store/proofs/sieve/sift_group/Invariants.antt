@@ -1,3 +1,4 @@
+-- The pairs with the first k of the group are sifted, and what was kept stays.
 use Rattle.std.proofs.Common.{◌≡◌, ◌<◌, ℕ, length, slice_index_or}
 use Rattle.stage_store.specs.Sieve.{IsSiftedBy}
 use Rattle.stage_store.specs.Shelves.{Stay}

@@ -1,3 +1,5 @@
+-- The table is sifted by its groups: the lines that are read tell which of a group's rows make no new sum, and a group
+-- whose norms are all closed or beyond the horizon is sifted as it stands.
 use Rattle.std.proofs.Common.{◌≡◌, ◌∙◌, ◌+◌, ◌-◌, ◌*◌, ◌≤◌, ◌<◌, ℕ, List, arith, ap, sym, refl, take, drop, length, get_or, min, subst, length-take}
 use Rattle.std.specs.List.{AllByRecursion}
 use Rattle.lift_core.specs.Stages.{stage_norm}

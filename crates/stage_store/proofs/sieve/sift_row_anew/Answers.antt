@@ -1,3 +1,5 @@
+-- The lines in which the row is marked tell what it bars and reaches, so they are read against the other table as for a
+-- new row.
 use Rattle.std.proofs.Common.{◌≡◌, ◌∙◌, ◌*◌, ◌/◌, ◌<◌, ℕ, List, length, get_or, sym, subst, subst₂, arith, true}
 use Rattle.std.specs.Prelude.{OnOk}
 use Rattle.std.proofs.lemmas.List.{get_or_default}

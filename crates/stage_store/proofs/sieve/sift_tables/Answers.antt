@@ -1,3 +1,4 @@
+-- The rows of one table are sifted with all of the other, one after another: each pair has a row in either table.
 use Rattle.std.proofs.Common.{length, slice_index_or, arith, true}
 use borrow.Author.Count.{below_more}
 use Rattle.stage_store.specs.Sieve.{AreSiftedBy}

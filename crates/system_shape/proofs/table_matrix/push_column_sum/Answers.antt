@@ -1,3 +1,4 @@
+-- The entry at column c is 1 where c is j modulo k, and it comes behind those of the columns before c.
 use Rattle.std.proofs.Common.{◌≡◌, ◌++◌, ◌∷◌, [], ◌%◌, ◌==◌, ◌∙◌, ap, rules, ℤ, SFits, w64, to_z-of_z}
 use Rattle.system_shape.specs.Tables.{mark}
 use Rattle.system_shape.proofs.Counted.{cell_more}

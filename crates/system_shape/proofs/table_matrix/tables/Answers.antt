@@ -1,3 +1,4 @@
+-- Three rows of row sums and k of column sums, each with 3 k entries, are as many cells as the matrix has.
 use Rattle.std.proofs.Common.{◌≡◌, ◌+◌, ◌*◌, ◌++◌, ◌∙◌, ap, sym, subst, List, ℤ}
 use Rattle.std.specs.List.{flat_map, range_with_len}
 use Rattle.mat_files.specs.Grids.{IsMatrix}

@@ -1,3 +1,4 @@
+-- The blocks before the loop's number are all in the book; the first that is not shows that the book is not whole.
 use Rattle.std.proofs.Common.{refl, sym, ap, subst, arith, below_more}
 use Rattle.std.specs.List.{Contains}
 use Rattle.lift_core.specs.PureMachine.{CoreState}

@@ -1,3 +1,5 @@
+-- The state after the first i events is reached by them one after another; where one is refused, its place is where the
+-- run stops.
 use Rattle.lift_core.specs.PureMachine.{no_event}
 use Rattle.lift_core.specs.declared.machine.Event.TheVariants.{Draw}
 use Rattle.lift_core.proofs.PureMachine.{runs_more, stops_at}

@@ -1,3 +1,5 @@
+-- The branches of the classes that were taken off hold no row below z, and the kid of the lowest class left is searched
+-- in the third tier.
 use Rattle.reduce_tree.specs.Inside.Searches.{HasNoneUnderThird}
 use Rattle.reduce_tree.proofs.Searches.{left_begun, left_less, kid_read}
 use Rattle.reduce_tree.proofs.index.Index.find_under_second.Goals as goal

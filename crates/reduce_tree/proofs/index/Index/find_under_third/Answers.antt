@@ -1,3 +1,5 @@
+-- The buckets of the classes that were taken off hold no row below z; that of the lowest class left is read row by row,
+-- and one past the end of the buckets is empty.
 use Rattle.std.proofs.Common.{arith}
 use Rattle.reduce_tree.specs.Inside.Searches.{HasNoneIn}
 use Rattle.reduce_tree.proofs.Searches.{left_begun, left_less, kid_read, none_at, none_past}

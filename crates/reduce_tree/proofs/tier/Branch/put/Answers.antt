@@ -1,3 +1,5 @@
+-- The kid is written at the place of its class; places of other classes, and what the numbers behind them say, are as
+-- before.
 use Rattle.std.proofs.Common.{arith}
 use Rattle.reduce_tree.proofs.Tiers.{put_kept, put_here}
 use Rattle.reduce_tree.proofs.tier.Branch.put.Goals as goal

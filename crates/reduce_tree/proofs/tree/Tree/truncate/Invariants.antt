@@ -1,3 +1,4 @@
+-- The last place is taken out each time, so what is filed is a front of what was, and the tree is one of that front.
 use Rattle.std.proofs.Common.{◌≡◌, ◌≤◌, length, take, vec_len}
 use Rattle.reduce_tree.specs.Inside.Filing.{IsTree}
 use Rattle.reduce_tree.proofs.tree.Tree.truncate.Given as goal

@@ -1,3 +1,5 @@
+-- Each bit so far is one of a line that was read, so reading one line more, or leaving off when all bits are set, names
+-- only rows that are in a line.
 use Rattle.std.proofs.Common.{◌∙◌, ◌<◌, ℕ, List, length, get_or, ap, arith}
 use Rattle.std.proofs.lemmas.List.{get_or_default}
 use Rattle.stage_store.proofs.LineBits.{read_more}

@@ -1,3 +1,4 @@
+-- All places taken in are of lines in which the row is marked, and one more is.
 use Rattle.std.proofs.Common.{◌∙◌, ap, sym, subst, List, ℕ}
 use Rattle.stage_store.specs.Lines.{AreMarked}
 use Rattle.stage_store.proofs.LineBits.{marked_more}

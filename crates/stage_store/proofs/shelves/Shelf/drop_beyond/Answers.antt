@@ -1,3 +1,4 @@
+-- A filter by the norm keeps each pair that is below the horizon.
 use Rattle.std.proofs.Common.{◌≡◌, rules, ap, ◌∙◌}
 use Rattle.std.specs.Prelude.{nat_lt}
 use Rattle.std.specs.List.{filter}

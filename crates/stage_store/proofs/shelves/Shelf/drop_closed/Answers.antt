@@ -1,3 +1,4 @@
+-- A filter by the norm keeps each pair that is above the closed norm.
 use Rattle.std.proofs.Common.{◌≡◌, rules, ap, ◌∙◌}
 use Rattle.std.specs.Prelude.{nat_lt}
 use Rattle.std.specs.List.{filter}

@@ -1,3 +1,4 @@
+-- Only the shelf of the closed norm is changed, and no pair above that norm leaves it.
 use Rattle.std.proofs.Common.{arith, [], ◌∙◌, ◌%◌, ◌<◌, length}
 use Rattle.stage_store.proofs.Classes.{get_or-default}
 use Rattle.stage_store.proofs.Keeping.{one_shelf}

@@ -1,3 +1,4 @@
+-- Only one shelf is changed, and no pair below the horizon leaves it.
 use Rattle.std.proofs.Common.{refl, arith, [], ◌∙◌}
 use Rattle.stage_store.proofs.Classes.{get_or-default}
 use Rattle.stage_store.proofs.Keeping.{one_shelf}

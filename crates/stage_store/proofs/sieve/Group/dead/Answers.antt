@@ -1,3 +1,4 @@
+-- A row with a bit in either reading is dead: by a line of bars or by one of reaches.
 use Rattle.std.proofs.Common.{inl, inr}
 use Rattle.stage_store.proofs.LineBits.{either_bit}
 use Rattle.stage_store.proofs.sieve.Group.dead.Goals as goal

@@ -1,3 +1,5 @@
+-- Both tables hold the rows that were sifted, and sifting them against one another from the closed norm on sifts all
+-- their pairs anew.
 use Rattle.std.proofs.Common.{ℕ, length, ap, sym, subst, refl, arith, ◌∙◌}
 use Rattle.std.specs.Prelude.{OnOk}
 use Rattle.lift_core.specs.Stages.{has_positive_last, has_negative_last}

@@ -1,3 +1,5 @@
+-- With all rows sifted it is a sieve of the listed rows; after an error the empty sieve is one, since nothing counts as
+-- sifted in it.
 use Rattle.std.proofs.Common.{ℕ, sym, subst, arith}
 use Rattle.stage_store.specs.Sieve.{IsSieveTo}
 use Rattle.stage_store.proofs.Sifting.{new_sieve}

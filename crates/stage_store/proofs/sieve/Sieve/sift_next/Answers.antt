@@ -1,3 +1,4 @@
+-- A row with last entry 0 is in no pair and joins no table, so with its reach written the sieve holds one row more.
 use Rattle.std.proofs.Common.{◌≡◌, ◌∙◌, ◌+◌, [], ◌∷◌, length, length-append, ap, sym, arith, refl, false}
 use Rattle.lift_core.specs.Stages.{has_positive_last, has_negative_last}
 use Rattle.stage_store.specs.Classes.{row_at}

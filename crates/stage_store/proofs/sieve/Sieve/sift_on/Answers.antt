@@ -1,3 +1,4 @@
+-- With the pairs of the closed norm dropped it is a sieve of the same rows for the norms above.
 use Rattle.std.proofs.Common.{refl, arith}
 use Rattle.stage_store.proofs.Sifting.{closed_sieve}
 use Rattle.stage_store.proofs.sieve.Sieve.sift_on.Goals as goal

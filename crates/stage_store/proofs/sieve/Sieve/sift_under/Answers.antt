@@ -1,3 +1,5 @@
+-- The row's pairs with those of the other table are sifted, and it joins the table of negative last entries with its
+-- lines, its norm and its reach: so the sieve holds one row more.
 use Rattle.std.proofs.Common.{◌≡◌, ◌∙◌, ◌+◌, ◌*◌, ℕ, List, [], ◌∷◌, length, length-append, ap, sym, subst, arith, refl, true, false}
 use Rattle.std.specs.Prelude.{ℤ, OnOk}
 use Rattle.lift_core.specs.ToolSystems.{width}

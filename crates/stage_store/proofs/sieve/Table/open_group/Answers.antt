@@ -1,3 +1,4 @@
+-- A group without rows tells nothing, so one more is true of the rows that the table has.
 use Rattle.std.proofs.Common.{sym, subst, length, List, arith}
 use Rattle.stage_store.specs.declared.sieve.Group.{Group}
 use Rattle.stage_store.specs.Sieve.{AreGroups}

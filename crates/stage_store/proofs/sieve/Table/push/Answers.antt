@@ -1,3 +1,5 @@
+-- The row's bits are set in the lines of the last group and its norm is taken into the group's bounds; the other groups
+-- are as they were.
 use Rattle.std.proofs.Common.{◌≡◌, ◌+◌, ◌*◌, ◌/◌, ◌%◌, ◌<◌, ℕ, List, set, length, ap, sym, subst, subst₂, arith, ◌++◌, ◌∷◌, []}
 use Rattle.stage_store.specs.Sieve.{AreGroups, IsGroup, IsSized}
 use Rattle.stage_store.proofs.Tables.{groups_set, group_marked}

@@ -1,3 +1,5 @@
+-- The classes of both signs are those of the listed rows, so the sum of their products is the number of the norm's
+-- pairs, and at most 2^42.
 use Rattle.std.proofs.Common.{sym, ◌∙◌, arith}
 use Rattle.lift_core.specs.Stages.{has_positive_last, has_negative_last}
 use Rattle.stage_store.specs.Classes.{AreClasses}

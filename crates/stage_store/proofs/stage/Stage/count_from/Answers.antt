@@ -1,3 +1,4 @@
+-- Counting changes the tally alone: what it says is true of the classes, and the stage's value is the same.
 use Rattle.std.proofs.Common.{◌<◌, ℕ, List, length, sym, subst, subst₂}
 use Rattle.std.specs.List.Sorted.{IsStrictlySortedBy}
 use Rattle.stage_store.specs.Classes.{ClassValue, class_cmp, norm_at}

@@ -1,3 +1,5 @@
+-- By the law of halves the rows of at most half of the norm are enough where the lists are the defined ones; all rows
+-- always are.
 use Rattle.std.proofs.Common.{sym, subst, drop}
 use Rattle.lift_core.specs.Stages.{IsNextNorm}
 use Rattle.stage_store.specs.Stage.{StageValue}

@@ -1,3 +1,4 @@
+-- The minimal solutions of no rows are what the first stage starts with; they are the defined ones, so its lists are.
 use Rattle.std.proofs.Common.{sym, subst}
 use Rattle.stage_store.specs.Lifted.{IsLiftedDefined}
 use Rattle.stage_store.proofs.UnitVectors.{solution_solves, solution_positive, solution_small}

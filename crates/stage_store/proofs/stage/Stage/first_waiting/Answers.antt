@@ -1,3 +1,4 @@
+-- Waiting rows ascend by norm, so the first of those not yet listed has the least norm that waits.
 use Rattle.std.proofs.Common.{◌≡◌, ◌∙◌, arith, length, ◌<◌, ◌-◌, subst, ◌+◌, drop, length-drop}
 use Rattle.stage_store.specs.Stage.{StageValue}
 use Rattle.stage_store.specs.Least.{IsLeastAbove}

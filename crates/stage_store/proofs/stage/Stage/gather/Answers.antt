@@ -1,3 +1,5 @@
+-- Where the norm is opened, its open pairs are gone through; else all pairs of the range are, by the classes. Either
+-- gains the same.
 use Rattle.std.proofs.Common.{◌+◌, ℕ, subst, refl, arith}
 use Rattle.lift_core.specs.Stages.{has_positive_last, has_negative_last}
 use Rattle.stage_store.specs.Classes.{AreClasses}

@@ -1,3 +1,5 @@
+-- The next norm is the lesser of the least norm of a pair and that of the first waiting row; where neither is there,
+-- none comes.
 use Rattle.std.proofs.Common.{arith}
 use Rattle.stage_store.proofs.StageFields.{next_together, next_none, next_some}
 use Rattle.stage_store.proofs.stage.Stage.least_norm.Goals as goal

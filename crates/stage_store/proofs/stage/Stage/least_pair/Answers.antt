@@ -1,3 +1,4 @@
+-- The next norm with counted pairs is the least, or the classes tell it: all their norms are at most the stage's.
 use Rattle.std.proofs.Common.{ℕ, ◌≡◌, arith, ap, subst, refl}
 use Rattle.std.specs.Prelude.{Some}
 use Rattle.lift_core.specs.Stages.{has_positive_last, has_negative_last}

@@ -1,3 +1,5 @@
+-- The rows with last entry 0 solve the row and are in order, so the next stage can start with them; where the lists are
+-- the defined ones, they are the minimal solutions.
 use Rattle.std.proofs.Common.{◌≡◌, sym, ap, arith, subst, subst₂, ◌+◌, ◌-◌, ◌≤◌, ◌<◌, length}
 use Rattle.std.specs.Prelude.{List, ℤ, ℕ, Ok, Err}
 use Rattle.std.specs.List.{AllByRecursion}

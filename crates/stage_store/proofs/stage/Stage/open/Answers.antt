@@ -1,3 +1,5 @@
+-- The open pairs are a matter of what is ahead: they are those that were kept, in order, and the stage's value is the
+-- same.
 use Rattle.std.proofs.Common.{◌≡◌, ◌∙◌, ◌<◌, ℕ, List, arith, ap, sym, subst, subst₂, length, drop}
 use Rattle.lift_core.specs.Stages.{has_positive_last, has_negative_last}
 use Rattle.stage_store.specs.Classes.{ClassValue, AreClasses}

@@ -1,3 +1,4 @@
+-- The p-th pair by the classes is the p-th of the norm, and its rows have opposite last entries and norms that add up.
 use Rattle.std.proofs.Common.{arith}
 use Rattle.lift_core.specs.Stages.{has_positive_last, has_negative_last}
 use Rattle.stage_store.specs.Classes.{AreClasses}

@@ -1,3 +1,4 @@
+-- What the tally notes at a norm is the number of the pairs by the classes, and so that of the norm.
 use Rattle.std.proofs.Common.{arith, refl}
 use Rattle.lift_core.specs.Stages.{has_positive_last, has_negative_last}
 use Rattle.stage_store.specs.Classes.{AreClasses}

@@ -1,3 +1,5 @@
+-- The rows of the norm come behind the listed ones, and are taken into tree, classes and tally: what holds of the stage
+-- holds of the next one. Where the lists were the defined ones, they are so still, since the norm's rows are.
 use Rattle.std.proofs.Common.{◌≡◌, ◌∙◌, ℕ, ◌<◌, sym, arith, ap, subst, ◌+◌, length, length-append, ◌++◌, drop}
 use Rattle.std.specs.List.Sorted.{IsStrictlySortedBy}
 use Rattle.std.specs.Prelude.{List, ℤ, false}

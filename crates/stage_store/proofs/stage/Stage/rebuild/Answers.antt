@@ -1,3 +1,5 @@
+-- Tree, classes and numbers are made of the lists anew, with an empty sieve and tally: so all that holds of a stage's
+-- fields holds.
 use Rattle.std.proofs.Common.{sym, subst₂}
 use Rattle.stage_store.proofs.Rebuilt.{AreFields, fields_hold}
 use Rattle.stage_store.proofs.stage.Stage.rebuild.Goals as goal

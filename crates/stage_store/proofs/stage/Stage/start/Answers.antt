@@ -1,3 +1,5 @@
+-- Nothing is listed and all solutions wait, each with its product with the row: all that holds of a stage holds of
+-- that.
 use Rattle.std.proofs.Common.{arith, subst, sym}
 use Rattle.lift_core.specs.Systems.{ToolSystem}
 use Rattle.stage_store.specs.Fields.{Holds}

@@ -1,3 +1,5 @@
+-- A pair has a sum where no entries of opposite signs meet and no cap is passed; as norms add up, each entry of the sum
+-- is in range.
 use Rattle.std.proofs.Common.{◌≡◌, ◌∙◌, arith, length, refl, ap, ◌≤◌, ◌+◌, get_or}
 use Rattle.std.proofs.lemmas.List.Elements.{All-get_or}
 use Rattle.row_pool.specs.Rows.{InRange}

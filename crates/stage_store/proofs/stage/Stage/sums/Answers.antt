@@ -1,3 +1,4 @@
+-- What all numbers of the norm gain, put in order, are the irreducible sums, each once.
 use Rattle.std.proofs.Common.{refl, ◌∙◌, subst, ◌⊎◌, List}
 use Rattle.std.specs.Prelude.{ℤ}
 use Rattle.std.specs.List.{Contains}

@@ -1,3 +1,4 @@
+-- Between the stage's norm and the next one no norm has pairs, so the pairs up to it are those used before and its own.
 use Rattle.std.proofs.Common.{arith, ap}
 use Rattle.stage_store.specs.Stage.{IsStage, used_of}
 use Rattle.stage_store.proofs.StageFields.{stage_of}

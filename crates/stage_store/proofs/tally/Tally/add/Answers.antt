@@ -1,3 +1,5 @@
+-- The classes up to k have added their products; from the first class on whose norm with this one lies beyond the tally
+-- none adds, as norms ascend.
 use Rattle.std.proofs.Common.{◌≡◌, ◌∙◌, ◌+◌, ◌*◌, ◌<◌, ◌≤◌, ℕ, length, ap, ap₂, arith, inl, inr}
 use Rattle.stage_store.specs.Classes.{norm_at, class_norm}
 use Rattle.stage_store.proofs.Classes.{class_at, class_ids}

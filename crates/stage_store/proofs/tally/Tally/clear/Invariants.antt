@@ -1,3 +1,4 @@
+-- The first i numbers are 0 again.
 use Rattle.std.proofs.Common.{◌≡◌, ◌<◌, ℕ}
 use Rattle.stage_store.specs.Tallies.{noted, IsInRange}
 use Rattle.stage_store.proofs.tally.Tally.clear.Given as goal
