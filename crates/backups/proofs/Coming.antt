@@ -20,7 +20,7 @@ use Rattle.backups.specs.declared.running.Stopped.{Stopped}
 use Rattle.backups.specs.declared.starts.Slot.{Slot}
 use Rattle.backups.specs.declared.starts.Start.{Start}
 use Rattle.backups.specs.declared.starts.Start.TheVariants.{Fresh, Resumed}
-use Rattle.backups.specs.Starts.{Begins, IsKept, IsDefinedStart, StartComesTo, system_of, first_slot, name_of, names_from}
+use Rattle.backups.specs.Starts.{Begins, KeepsStage, IsDefinedStart, StartComesTo, system_of, first_slot, slot_name, names_from}
 use Rattle.backups.specs.Standing.{Turns, turns_from, next_backup, LeavesFrom, LeavesRun, ended, came_to, named_end, IsSoundFrom, AreSolutions, HasStoppedCause}
 use Rattle.backups.proofs.Soundness.{finished_sound}
 
@@ -48,7 +48,7 @@ system_from (Resumed s slot) from (Ok f) b h = subst (λ (l : Lifted). KeepsSyst
 system_from start from (Err e) b h = tt
 
 pub sound_from : (limits : Limits) (start : Start) (result : Result Finish Stopped)
-    → IsKept start → IfOk result (IsOfSystem (system_of start))
+    → KeepsStage start → IfOk result (IsOfSystem (system_of start))
     → IfSome (named_end result) (StartComesTo limits start)
     → IfOk result (IsSoundFrom start)
 sound_from limits (Fresh S) (Ok f) kept of comes = tt
@@ -66,7 +66,7 @@ leaves_from turns limits start from came (Some files) after b h = inl (from, b, 
 
 -- the first backup goes to the file of the slot
 none_yet : (slot : Slot) (interval : Option ℕ) (first second : List ℕ)
-    → name_of slot first second ≡ next_backup (turns_from slot interval first second) []
+    → slot_name slot first second ≡ next_backup (turns_from slot interval first second) []
 none_yet slot None first second = refl
 none_yet slot (Some n) first second = refl
 
@@ -74,10 +74,10 @@ none_yet slot (Some n) first second = refl
 pub leaves_before : (limits : Limits) (start : Start) (slot : Slot) (interval : Option ℕ) (first
     second : List ℕ) (held : Option Files) → slot ≡ first_slot start
     → IfSome held (λ files. LeavesRun (turns_from (first_slot start) interval first second) limits
-    start (Err (name_of slot first second)) files held)
+    start (Err (slot_name slot first second)) files held)
 leaves_before limits start slot interval first second None is = tt
 leaves_before limits start slot interval first second (Some files) is = inr (
-  ap (λ (name : List ℕ). Err name) (ap (λ (k : Slot). name_of k first second) is ∙ none_yet
+  ap (λ (name : List ℕ). Err name) (ap (λ (k : Slot). slot_name k first second) is ∙ none_yet
       (first_slot start) interval first second),
   refl,
 )
@@ -91,12 +91,12 @@ of_ended P (Err s) answer e h = tt
 -- what it came to, from the answer and the slot
 pub came_of : (first second : List ℕ) (r : Result Finish Stopped) (answer : Result Finish RunEnd)
     (next : Slot) → ended r ≡ answer → IfErr r (λ s. s.next ≡ next)
-    → came_to first second r ≡ ok_or (end_of answer) (name_of next first second)
+    → came_to first second r ≡ ok_or (end_of answer) (slot_name next first second)
 came_of first second (Ok f) answer next e h = ap (λ (x : Result Finish RunEnd). ok_or (end_of x)
-    (name_of next first second)) e
+    (slot_name next first second)) e
 came_of first second (Err s) answer next e h =
-    ap (λ (k : Slot). ok_or (end_of_error s.end) (name_of k first second)) h ∙ ap (λ (x : Result
-    Finish RunEnd). ok_or (end_of x) (name_of next first second)) e
+    ap (λ (k : Slot). ok_or (end_of_error s.end) (slot_name k first second)) h ∙ ap (λ (x : Result
+    Finish RunEnd). ok_or (end_of x) (slot_name next first second)) e
 
 pub alone_leaves : (limits : Limits) (from : Lifted) (r : Result Finish Stopped) (answer : Result
     Finish RunEnd) (slot : Slot) (interval : Option ℕ) (first second : List ℕ) (held : Option Files)

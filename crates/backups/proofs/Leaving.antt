@@ -15,7 +15,7 @@ use Rattle.lift_run.specs.Runs.{end_of}
 use Rattle.lift_run.specs.Keeps.{TellsTo, TellsKeep}
 use Rattle.backups.specs.declared.keeper.BackupState.{BackupState}
 use Rattle.backups.specs.declared.starts.Slot.{Slot}
-use Rattle.backups.specs.Starts.{name_of}
+use Rattle.backups.specs.Starts.{slot_name}
 use Rattle.backups.specs.Backups.{after_norm, MayBackUp, ends_of_intervals, next_name}
 use Rattle.backups.specs.Standing.{Turns, turns_from, backed, next_backup, names_after, MayStandAfter, HasAllBackups, HasFirstBackups, LeavesFrom}
 use Rattle.backups.proofs.Backing.{go_in_turn, names_go, loan_stays, names_stay}
@@ -85,16 +85,16 @@ module _ (limits : Limits) (lent n : ℕ) (slot : Slot) (first second : List ℕ
   -- the slot of a state that follows these stages is that of the next backup's file
   next_is : (held : Option Files) (closed : List StageValue) (now : BackupState)
       → now.slot ≡ (fold after_norm (begun_with held) closed).slot
-      → name_of now.slot first second ≡ next_backup each closed
+      → slot_name now.slot first second ≡ next_backup each closed
   next_is held closed now same =
-      ap (λ (k : Slot). name_of k first second) same
-      ∙ ap (λ (l : List (List ℕ)). name_of (fold after_norm (begun_with held) closed).slot
+      ap (λ (k : Slot). slot_name k first second) same
+      ∙ ap (λ (l : List (List ℕ)). slot_name (fold after_norm (begun_with held) closed).slot
       (slice_index_or l 0 []) (slice_index_or l 1 [])) (sym (names_stay (begun_with held) closed))
       ∙ next_after held closed
 
   -- the end that is named, or the file of the next backup, as the state has it
   abbrev ends_at : Option End → BackupState → Result End (List ℕ)
-  ends_at named now = ok_or named (name_of now.slot first second)
+  ends_at named now = ok_or named (slot_name now.slot first second)
 
   -- the state that follows kept stages
   whole : (files : Files) (closed : List StageValue) (now : BackupState)
@@ -222,7 +222,7 @@ module _ (limits : Limits) (from : Lifted) (answer : Result Finish RunEnd) (old 
       b) (Some now)) as_begun told_all
 
   pub leaves_all : IfSome held (λ files. LeavesFrom (turns_from slot (Some n) first second) limits from
-      (ok_or (end_of answer) (name_of now.slot first second)) files now.files)
+      (ok_or (end_of answer) (slot_name now.slot first second)) files now.files)
   leaves_all = leaves_backups limits old.lent n slot first second held from answer now told_begun
 
   pub same_loan_all : now.lent ≡ old.lent

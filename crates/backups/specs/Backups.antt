@@ -6,7 +6,7 @@ use Rattle.outside.specs.Files.{Files, written}
 use Rattle.stage_store.specs.Stage.{StageValue}
 use Rattle.restart_file.specs.Texts.{text_of_stage}
 use Rattle.backups.specs.declared.keeper.BackupState.{BackupState}
-use Rattle.backups.specs.Starts.{other_slot, name_of, names_from}
+use Rattle.backups.specs.Starts.{other_slot, slot_name, names_from}
 
 -- both names, that of the next file first
 abbrev pub names_in_turn : BackupState → List (List ℕ)
@@ -14,7 +14,7 @@ names_in_turn s = names_from s.slot (slice_index_or s.names 0 []) (slice_index_o
 
 -- the name that the next backup goes to
 abbrev pub next_name : BackupState → List ℕ
-next_name s = name_of s.slot (slice_index_or s.names 0 []) (slice_index_or s.names 1 [])
+next_name s = slot_name s.slot (slice_index_or s.names 0 []) (slice_index_or s.names 1 [])
 
 -- the names take turns
 abbrev pub turned : List (List ℕ) → List (List ℕ)

@@ -22,7 +22,7 @@ use Rattle.backups.specs.declared.starts.Start.{Start}
 use Rattle.backups.specs.declared.starts.Start.TheVariants.{Fresh, Resumed}
 use Rattle.backups.specs.Backups.{turned, ends_of_intervals, written_in_turn}
 use Rattle.backups.specs.declared.starts.Slot.{Slot}
-use Rattle.backups.specs.Starts.{Begins, name_of, names_from}
+use Rattle.backups.specs.Starts.{Begins, slot_name, names_from}
 
 -- after every so many closed norms, or never, a backup goes to these names in turn
 pub record Turns : Type 0 where
@@ -102,7 +102,7 @@ named_end result = end_of (ended result)
 -- the end that is named, or the name of the file of the next backup, of those of both files, where the run broke off
 abbrev pub came_to : List ℕ → List ℕ → Result Finish Stopped → Result End (List ℕ)
 came_to first second (Ok f) = Ok (finished f.rows.rows f.pairs)
-came_to first second (Err s) = ok_or (end_of_error s.end) (name_of s.next first second)
+came_to first second (Err s) = ok_or (end_of_error s.end) (slot_name s.next first second)
 
 -- the count has not fallen, and a failure is answered only where it rose
 pub record HasStoppedCause (before now : ℕ) (result : Result Finish Stopped) : Type 0 where

@@ -30,13 +30,13 @@ abbrev pub stored_in : List ℕ → List ℕ → Files → Stored
 stored_in first second files = record { first = get files first; second = get files second }
 
 -- the file is accepted for the system, and this stage stands in it
-pub record Stands (S : ToolSystem) (file : Option (List ℕ)) (s : StageValue) : Type 0 where
+pub record StandsIn (S : ToolSystem) (file : Option (List ℕ)) (s : StageValue) : Type 0 where
   pub system_is : s.system ≡ S
   pub reading : IsReading S file (Ok (progress_of s))
 
 -- the file is not accepted, and this is its first fault
-abbrev pub IsRefused : ToolSystem → Option (List ℕ) → RestartFault → Type 0
-IsRefused S file fault = IsReading S file (Err fault)
+abbrev pub HasFirstFault : ToolSystem → Option (List ℕ) → RestartFault → Type 0
+HasFirstFault S file fault = IsReading S file (Err fault)
 
 -- the place of s is later than that of t: a greater stage, or a greater norm of the same one
 abbrev pub is_later : StageValue → StageValue → Bool
@@ -44,26 +44,26 @@ is_later s t = nat_lt t.number s.number || ((t.number == s.number) && nat_lt t.n
 
 -- the file is not accepted, or its place is not later
 abbrev pub IsNotLater : ToolSystem → Option (List ℕ) → StageValue → Type 0
-IsNotLater S file s = ((f : RestartFault) × IsRefused S file f) ⊎ ((t : StageValue) × Stands S file t × (is_later t s ≡ false))
+IsNotLater S file s = ((f : RestartFault) × HasFirstFault S file f) ⊎ ((t : StageValue) × StandsIn S file t × (is_later t s ≡ false))
 
 -- the file is not accepted, or its place is earlier
 abbrev pub IsEarlier : ToolSystem → Option (List ℕ) → StageValue → Type 0
-IsEarlier S file s = ((f : RestartFault) × IsRefused S file f) ⊎ ((t : StageValue) × Stands S file t × (is_later s t ≡ true))
+IsEarlier S file s = ((f : RestartFault) × HasFirstFault S file f) ⊎ ((t : StageValue) × StandsIn S file t × (is_later s t ≡ true))
 
 -- the file with the later place is taken, and the first where both places are the same
-abbrev pub IsTaken : ToolSystem → Stored → StageValue → Slot → Type 0
-IsTaken S files s First = Stands S files.first s × IsNotLater S files.second s
-IsTaken S files s Second = Stands S files.second s × IsEarlier S files.first s
+abbrev pub IsChosen : ToolSystem → Stored → StageValue → Slot → Type 0
+IsChosen S files s First = StandsIn S files.first s × IsNotLater S files.second s
+IsChosen S files s Second = StandsIn S files.second s × IsEarlier S files.first s
 
 -- a run that is resumed starts from the stage of the file that is taken
 abbrev pub Resumes : ToolSystem → Stored → Start → Type 0
 Resumes S files (Fresh T) = ⊥
-Resumes S files (Resumed s slot) = IsTaken S files s slot
+Resumes S files (Resumed s slot) = IsChosen S files s slot
 
 -- the start, or the first fault of each file where neither is accepted
 abbrev pub FindsStart : ToolSystem → Stored → Result Start StartEnd → Type 0
 FindsStart S files (Ok start) = Resumes S files start
-FindsStart S files (Err (end.Refused f g)) = IsRefused S files.first f × IsRefused S files.second g
+FindsStart S files (Err (end.Refused f g)) = HasFirstFault S files.first f × HasFirstFault S files.second g
 FindsStart S files (Err (end.Failed slot)) = ⊤
 FindsStart S files (Err end.Memory) = ⊤
 
@@ -96,9 +96,9 @@ Begins (Fresh S) from = IsFirst S from
 Begins (Resumed s slot) from = from ≡ Next s
 
 -- what the type of a stage keeps
-abbrev pub IsKept : Start → Type 0
-IsKept (Fresh S) = ⊤
-IsKept (Resumed s slot) = IsStage s
+abbrev pub KeepsStage : Start → Type 0
+KeepsStage (Fresh S) = ⊤
+KeepsStage (Resumed s slot) = IsStage s
 
 -- ---- the two names
 -- the file that the first backup goes to: the one that was not taken
@@ -111,10 +111,10 @@ abbrev pub other_slot : Slot → Slot
 other_slot First = Second
 other_slot Second = First
 
-abbrev pub name_of : Slot → List ℕ → List ℕ → List ℕ
-name_of First first second = first
-name_of Second first second = second
+abbrev pub slot_name : Slot → List ℕ → List ℕ → List ℕ
+slot_name First first second = first
+slot_name Second first second = second
 
 -- both names, that of the slot first
 abbrev pub names_from : Slot → List ℕ → List ℕ → List (List ℕ)
-names_from slot first second = name_of slot first second ∷ name_of (other_slot slot) first second ∷ []
+names_from slot first second = slot_name slot first second ∷ slot_name (other_slot slot) first second ∷ []

@@ -5,7 +5,7 @@ ghost use Rattle.std.specs.Option.{ok_or};
 ghost use Rattle.outside.specs.Files.{Files};
 ghost use Rattle.stage_store.specs.Lifted.{IsLiftedDefined};
 ghost use Rattle.lift_run.specs.Runs.{bounds, end_of, AnswersWalk, AnswersEnd, KeepsSystem, IsOfSystem, HasAllSolutions};
-ghost use Rattle.backups.specs.Starts.{Begins, IsKept, IsDefinedStart, StartComesTo, system_of, first_slot};
+ghost use Rattle.backups.specs.Starts.{Begins, KeepsStage, IsDefinedStart, StartComesTo, system_of, first_slot};
 ghost use Rattle.backups.specs.Standing.{LeavesFrom, LeavesRun, turns_from, ended, came_to, named_end, HasStoppedCause, IsSoundFrom};
 
 use crate::{Backup, Slot, Start};
@@ -39,7 +39,7 @@ pub struct Stopped {
 fn begin(alloc: Global, start: Start) -> Result<Lifted, AllocError>
     ensures begins { IfOk result (Begins start) }
     ensures defined { IsDefinedStart start → IfOk result IsLiftedDefined }
-    ensures kept { IsKept start }
+    ensures kept { KeepsStage start }
 {
     match start {
         Start::Fresh(system) => Stage::first(alloc, system),

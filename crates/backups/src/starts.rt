@@ -3,7 +3,7 @@
 ghost use Rattle.std.specs.Prelude.{◌≡◌, Err, IfOk, IfSome};
 ghost use Rattle.std.specs.FinMap.{get};
 ghost use Rattle.lift_core.specs.Systems.{ToolSystem};
-ghost use Rattle.backups.specs.Starts.{Stored, stored_in, is_later, Resumes, FindsStart, HasStartCause, first_slot, other_slot, name_of};
+ghost use Rattle.backups.specs.Starts.{Stored, stored_in, is_later, Resumes, FindsStart, HasStartCause, first_slot, other_slot, slot_name};
 ghost use Rattle.backups.specs.Inside.Contents.{IsContent};
 
 use lift_core::System;
@@ -34,7 +34,7 @@ impl Slot {
 
     // The name of the file, of those of both.
     pub(crate) fn name<'a>(self, first: &'a str, second: &'a str) -> &'a str
-        ensures { result.now ≡ name_of self first.entry.now second.entry.now }
+        ensures { result.now ≡ slot_name self first.entry.now second.entry.now }
     {
         match self {
             Slot::First => first,

@@ -2,7 +2,7 @@
 
 ghost use Rattle.std.specs.Prelude.{◌≡◌, ◌+◌, ◌≤◌, length, All, IfOk, OnOk};
 ghost use Rattle.lift_core.specs.ToolSystems.{width, IsSign};
-ghost use Rattle.row_pool.specs.Rows.{InRange};
+ghost use Rattle.int_vector.specs.Range.{InRange};
 
 use lift_core::{System, Tool};
 use outside::{MemFolder, PutEnd};

@@ -1,7 +1,7 @@
 //! A tree's answers, beside those of a plain search.
 
 ghost use Rattle.std.specs.Prelude.{◌≡◌, ◌≤◌, ◌<◌, length, nat_abs, IfOk, All};
-ghost use Rattle.row_pool.specs.Rows.{InRange};
+ghost use Rattle.int_vector.specs.Range.{InRange};
 ghost use Rattle.reduce_tree.specs.Tree.{Fits, places_of};
 
 use int_vector::{Visits, below};

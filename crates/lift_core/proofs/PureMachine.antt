@@ -10,7 +10,7 @@ use Rattle.lift_core.specs.Lists.{IsListOf}
 use Rattle.lift_core.specs.Stages.{norm_cmp, stage_norm, IsPair}
 use Rattle.lift_core.specs.PairSums.{IsNewSum}
 use Rattle.lift_core.specs.Times.{times, total_of, once_below}
-use Rattle.lift_core.specs.PureMachine.{CoreState, core_start, held_at, IsAllowed, after, Runs, no_event, one_event, Steps, IsRefused, StopsAt, AreNumbered, IsSumInBlock, IsSumsOf}
+use Rattle.lift_core.specs.PureMachine.{CoreState, core_start, held_at, MayCome, after, Runs, no_event, one_event, Steps, IsRefused, StopsAt, AreNumbered, IsSumInBlock, IsSumsOf}
 use Rattle.lift_core.specs.declared.machine.Event.{Event}
 use Rattle.lift_core.specs.declared.machine.Event.TheVariants.{Draw, Put, Close}
 use Rattle.lift_core.specs.declared.machine.StepEnd.{StepEnd}
@@ -42,7 +42,7 @@ blocks_after s (Draw p) = refl
 blocks_after s (Put p) = refl
 blocks_after s Close = refl
 
-kept_after : (s : CoreState) (e : Event) → Keeps s → IsAllowed s e → Keeps (after s e)
+kept_after : (s : CoreState) (e : Event) → Keeps s → MayCome s e → Keeps (after s e)
 kept_after s (Draw p) k a = record {
   upto = omega (arith, a.2);
   drawn = λ n h. let t = total-set_at (times n) s.held p (held_at s p ++ (s.next ∷ [])) [] a.1 in let g = times-append n (held_at s p) (s.next ∷ []) in
@@ -96,12 +96,12 @@ each_number_once blocks passes es s r n =
     (λ above. let o = once_no n s.next (omega arith) in let d = k.fresh n (omega arith) in omega arith)
 
 -- one event more at the end of a run
-pub runs-push : {s t : CoreState} {es : List Event} (e : Event) → Runs s es t → IsAllowed t e → Runs s (es ++ (e ∷ [])) (after t e)
+pub runs-push : {s t : CoreState} {es : List Event} (e : Event) → Runs s es t → MayCome t e → Runs s (es ++ (e ∷ [])) (after t e)
 runs-push e no_event a = one_event a no_event
 runs-push e (one_event b rest) a = one_event b (runs-push e rest a)
 
 -- the event at place i is done after those before it
-pub runs_more : (s t u : CoreState) (es : List Event) (i : ℕ) (d : Event) → i < length es → Runs s (take i es) t → IsAllowed t (get_or es i d) × (u ≡ after t (get_or es i d)) → Runs s (take (i + 1) es) u
+pub runs_more : (s t u : CoreState) (es : List Event) (i : ℕ) (d : Event) → i < length es → Runs s (take i es) t → MayCome t (get_or es i d) × (u ≡ after t (get_or es i d)) → Runs s (take (i + 1) es) u
 runs_more s t u es i d h r a =
     let k : suc i ≡ i + 1 = omega arith in
     subst (λ (j : ℕ). Runs s (take j es) u) k

@@ -28,14 +28,14 @@ abbrev pub held_at : CoreState → ℕ → List ℕ
 held_at s p = slice_index_or s.held p []
 
 -- each number of a block is in the book
-abbrev pub IsWhole : List ℕ → ℕ → Type 0
-IsWhole book blocks = (n : ℕ) → n < blocks → Contains book n
+abbrev pub HasAllBlocks : List ℕ → ℕ → Type 0
+HasAllBlocks book blocks = (n : ℕ) → n < blocks → Contains book n
 
 -- whether the event may come
-abbrev pub IsAllowed : CoreState → Event → Type 0
-IsAllowed s (Draw p) = (s.closed ≡ false) × (p < length s.held) × (s.next < s.blocks)
-IsAllowed s (Put p) = (s.closed ≡ false) × (p < length s.held)
-IsAllowed s Close = (s.closed ≡ false) × IsWhole s.book s.blocks
+abbrev pub MayCome : CoreState → Event → Type 0
+MayCome s (Draw p) = (s.closed ≡ false) × (p < length s.held) × (s.next < s.blocks)
+MayCome s (Put p) = (s.closed ≡ false) × (p < length s.held)
+MayCome s Close = (s.closed ≡ false) × HasAllBlocks s.book s.blocks
 
 abbrev pub after_draw : CoreState → ℕ → CoreState
 after_draw s p = record s { next = s.next + 1; held = slice_set s.held p (held_at s p ++ (s.next ∷ [])) }
@@ -52,18 +52,18 @@ after s Close = record s { closed = true }
 -- the events, each allowed where it comes, lead from one state to the other
 pub data Runs : CoreState → List Event → CoreState → Type 0 where
   no_event : {s : CoreState} → Runs s [] s
-  one_event : {s t : CoreState} {e : Event} {es : List Event} → IsAllowed s e → Runs (after s e) es t → Runs s (e ∷ es) t
+  one_event : {s t : CoreState} {e : Event} {es : List Event} → MayCome s e → Runs (after s e) es t → Runs s (e ∷ es) t
 
 -- ---- what the calls answer
 -- one event is done, or nothing has changed
 abbrev pub Steps : CoreState → Event → CoreState → Result (Unit {0}) StepEnd → Type 0
-Steps s e t (Ok u) = IsAllowed s e × (t ≡ after s e)
-Steps s e t (Err NotAllowed) = (IsAllowed s e → ⊥) × (t ≡ s)
+Steps s e t (Ok u) = MayCome s e × (t ≡ after s e)
+Steps s e t (Err NotAllowed) = (MayCome s e → ⊥) × (t ≡ s)
 Steps s e t (Err Memory) = t ≡ s
 
 -- the event is not allowed; running out of memory tells nothing of it
 abbrev pub IsRefused : CoreState → Event → StepEnd → Type 0
-IsRefused s e NotAllowed = IsAllowed s e → ⊥
+IsRefused s e NotAllowed = MayCome s e → ⊥
 IsRefused s e Memory = Unit {0}
 
 -- the events before place i are done, and the one there is refused

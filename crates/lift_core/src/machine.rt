@@ -107,7 +107,7 @@ impl Model for Core {
 }
 
 impl Core {
-    ghost use Rattle.lift_core.specs.PureMachine.{core_start, IsWhole, IsAllowed, after_draw, after_put, Steps, RunsOr};
+    ghost use Rattle.lift_core.specs.PureMachine.{core_start, HasAllBlocks, MayCome, after_draw, after_put, Steps, RunsOr};
 
     /// The machine of this many blocks and passes before its first event.
     ///
@@ -140,7 +140,7 @@ impl Core {
 
     // Whether each number of a block is in the book.
     fn is_whole(&self) -> bool
-        ensures { IsTrue result ↔ IsWhole self.now.book self.now.blocks }
+        ensures { IsTrue result ↔ HasAllBlocks self.now.book self.now.blocks }
     {
         for number in 0..self.blocks {
             if !self.book.contains(number) {

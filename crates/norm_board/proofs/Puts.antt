@@ -6,11 +6,11 @@ use Rattle.norm_board.specs.declared.rule.View.{View}
 use Rattle.norm_board.specs.Books.{BookValue}
 use Rattle.lift_core.specs.Times.{times, once_below}
 use Rattle.norm_board.specs.Puts.{Open, Keeps}
-use Rattle.norm_board.specs.Rule.{taking, giving, past, MayGive, Finds}
+use Rattle.norm_board.specs.Rule.{taking, giving, past, MayGive, KnowsBook}
 use Rattle.lift_core.proofs.Times.{times-append}
 use Rattle.norm_board.proofs.Lists.{times-past, times-past_found, past_self}
 
-module _ (v : View) (b : BookValue) (f : Finds v b) (s : List ℕ) (o : Open v s) where
+module _ (v : View) (b : BookValue) (f : KnowsBook v b) (s : List ℕ) (o : Open v s) where
   pub past_count : (x : ℕ) → times x (past b.blocks (b.blocks ++ s)) ≡ times x s
   past_count x = let t = times-append x b.blocks s in dite (ℕ_discrete (times x b.blocks) 0)
       (λ z. let p = times-past x b.blocks (b.blocks ++ s) z in omega arith)
@@ -33,6 +33,6 @@ module _ (v : View) (b : BookValue) (f : Finds v b) (s : List ℕ) (o : Open v s
   has_back h e = λ i. record v { holding = sym h i; found = sym e i; kept = (ap (λ (l : List ℕ). v.kept ++ l) (past_self b.blocks) ∙ append-nil v.kept) i }
 
 -- the pass with all the weight, when it is done, has the whole norm
-pub closes : (v : View) (b : BookValue) (s : List ℕ) → Finds v b → v.weight ≡ v.plan.passes → v.done ≡ true → ((x : ℕ) → times x v.kept + times x s ≡ times x v.drawn)
+pub closes : (v : View) (b : BookValue) (s : List ℕ) → KnowsBook v b → v.weight ≡ v.plan.passes → v.done ≡ true → ((x : ℕ) → times x v.kept + times x s ≡ times x v.drawn)
     → (x : ℕ) → times x (b.blocks ++ s) ≡ once_below x v.plan.blocks
 closes v b s f all done rest x = let t = times-append x b.blocks s in let w = f.whole all x in let a = f.all all done x in let o = rest x in omega arith

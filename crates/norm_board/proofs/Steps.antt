@@ -10,7 +10,7 @@ use Rattle.norm_board.specs.declared.rule.Plan.{Plan}
 use Rattle.norm_board.specs.declared.rule.View.{View}
 use mathlib.Core.Option as maybe
 use Rattle.lift_core.specs.Times.{one_if, times, total_of, once_below, AllUnder}
-use Rattle.norm_board.specs.Rule.{S, weight_of, open_weight, holding_of, drawn_of, kept_of, Fits, Turned, Ruled, gained, finished, shrunk, single, joined}
+use Rattle.norm_board.specs.Rule.{S, weight_of, open_weight, holding_of, drawn_of, kept_of, HoldsOfPass, Turned, Ruled, gained, finished, shrunk, single, joined}
 use Rattle.norm_board.specs.Inside.Plays.{spent_view, drew, looked}
 use Rattle.lift_core.proofs.Times.{times-append, times_same, times_other, once_yes, once_no}
 use Rattle.norm_board.proofs.Lists.{total-set, total-snoc, total_holds, total_le}
@@ -22,12 +22,12 @@ open_le : (v : View) → open_weight v ≤ weight_of v
 open_le v = elim v.done as (λ b. cond b 0 v.weight ≤ v.weight) [ true ↦ omega arith | false ↦ omega arith ]
 
 module _ (p : Plan) where
-  later : (n m : ℕ) (v : View) → n ≤ m → Fits p n v → Fits p m v
+  later : (n m : ℕ) (v : View) → n ≤ m → HoldsOfPass p n v → HoldsOfPass p m v
   later n m v le f = record { kept = f.kept; spent = f.spent; late = λ l d. let h = f.late l d in omega arith; plan = f.plan }
 
-  pub each_set : (n m id : ℕ) (vs : List View) (w : View) → n ≤ m → ((i : ℕ) (v : View) → get_elem? vs i ≡ some v → Fits p n v) → Fits p m w
-      → (i : ℕ) (v : View) → get_elem? (set vs id w) i ≡ some v → Fits p m v
-  each_set n m id vs w le all good i v e = ⊎_elim (λ t. subst (Fits p m) t.1 good) (λ t. later n m v le (all i v t.1)) (at_set vs id i w v e)
+  pub each_set : (n m id : ℕ) (vs : List View) (w : View) → n ≤ m → ((i : ℕ) (v : View) → get_elem? vs i ≡ some v → HoldsOfPass p n v) → HoldsOfPass p m w
+      → (i : ℕ) (v : View) → get_elem? (set vs id w) i ≡ some v → HoldsOfPass p m v
+  each_set n m id vs w le all good i v e = ⊎_elim (λ t. subst (HoldsOfPass p m) t.1 good) (λ t. later n m v le (all i v t.1)) (at_set vs id i w v e)
 
   moved_turn : (word : ℕ) (homes : List (maybe.Option S)) (vs us : List View) → Turned p word homes vs
       → total_of holding_of us ≡ total_of holding_of vs
@@ -59,7 +59,7 @@ module _ (p : Plan) where
       → ((x : ℕ) → total_of (drawn_of x) s.views + times x w.drawn ≡ once_below x (min m p.blocks) + times x me.0.drawn)
       → w.weight ≡ me.0.weight
       → m + (total_of open_weight s.views + open_weight w) ≤ p.blocks + p.passes + open_weight me.0
-      → Fits p m w
+      → HoldsOfPass p m w
       → w.holding ≡ me.0.holding → w.found ≡ me.0.found → w.kept ≡ me.0.kept
       → Ruled p (stepped s 0 m id me.1 w keeps)
   placed s r m id me w at le once weight room good holding found kept =
@@ -180,7 +180,7 @@ module _ (p : Plan) where
         each = λ i w e. ⊎_elim
             (λ h. each_set (get_or s.words 0 0) (get_or s.words 0 0) id s.views (shrunk v) (omega arith) r.each
             record { kept = fit.kept; spent = λ z. absurd (omega arith); late = λ l d. fit.late (omega arith) d; plan = λ l. fit.plan (omega arith) } i w h)
-            (λ h. subst (Fits p (get_or s.words 0 0)) h
+            (λ h. subst (HoldsOfPass p (get_or s.words 0 0)) h
             record { kept = λ x. omega arith; spent = λ z. absurd (omega arith); late = λ l d. fit.late (omega arith) d; plan = λ l. fit.plan (omega arith) })
             (at_snoc vs (single v) w i e);
         turn = moved_turn (get_or s.words 1 0) s.homes s.views (vs ++ single v ∷ []) r.turn

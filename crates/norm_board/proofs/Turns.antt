@@ -13,7 +13,7 @@ use Rattle.norm_board.specs.declared.rule.Plan.{Plan}
 use Rattle.norm_board.specs.declared.rule.View.{View}
 use Rattle.norm_board.specs.Books.{BookValue}
 use Rattle.lift_core.specs.Times.{one_if, times, total_of, once_below}
-use Rattle.norm_board.specs.Rule.{S, weight_of, open_weight, holding_of, drawn_of, kept_of, Spent, Fits, IsBookOf, Home, Away, Turned, Ruled, taking, missing, past, giving, MayGive, Finds}
+use Rattle.norm_board.specs.Rule.{S, weight_of, open_weight, holding_of, drawn_of, kept_of, Spent, HoldsOfPass, IsBookOf, Home, Away, Turned, Ruled, taking, missing, past, giving, MayGive, KnowsBook}
 use Rattle.norm_board.specs.Inside.Plays.{took, gave}
 use Rattle.lift_core.proofs.Times.{times-append, once_le}
 use Rattle.norm_board.proofs.Lists.{total-set, total_holds, total_two, total_some, total_le_others, total_alone}
@@ -36,7 +36,7 @@ top (x ∷ xs) = x.1
 module _ (p : Plan) where
   -- a step on word 1, which leaves weights, draws and doneness
   shifted : (s : State S View) (r : Ruled p s) (k id : ℕ) (v w : View) (homes : List (maybe.Option S)) → get_elem? s.views id ≡ some v
-      → w.weight ≡ v.weight → w.done ≡ v.done → w.drawn ≡ v.drawn → Fits p (get_or s.words 0 0) w → Turned p k homes (set s.views id w)
+      → w.weight ≡ v.weight → w.done ≡ v.done → w.drawn ≡ v.drawn → HoldsOfPass p (get_or s.words 0 0) w → Turned p k homes (set s.views id w)
       → Ruled p record { words = set s.words 1 k; homes = homes; views = set s.views id w }
   shifted s r k id v w homes at weight done drawn good turn =
       let wide : length s.words ≡ 2 = r.wide in
@@ -61,7 +61,7 @@ module _ (p : Plan) where
   pub others : (s : State S View) → Ruled p s → (id : ℕ) (v : View) → get_elem? s.views id ≡ some v → v.weight ≡ p.passes → (j : ℕ) (w : View) → j ≢ id → get_elem? s.views j ≡ some w → Spent w
   others s r id v at all j w ne e = (r.each j w e).spent (let t = total_two weight_of s.views j id w v ne e at in let u = r.weights in omega arith)
 
-  finds : (s : State S View) (r : Ruled p s) (id : ℕ) (v : View) → get_elem? s.views id ≡ some v → 0 < v.weight → (h : Home p s.homes s.views) → Finds v h.book
+  finds : (s : State S View) (r : Ruled p s) (id : ℕ) (v : View) → get_elem? s.views id ≡ some v → 0 < v.weight → (h : Home p s.homes s.views) → KnowsBook v h.book
   finds s r id v at live h =
       let fit = r.each id v at in
       let plan : v.plan ≡ p = fit.plan live in

@@ -46,7 +46,7 @@ pub record Spent (v : View) : Type 0 where
 
 -- what holds of each pass, where the counter is n: kept blocks were drawn, each once; a pass that is done has seen the
 -- counter reach the number of blocks; and a pass that is not spent carries the board's own plan
-pub record Fits (p : Plan) (n : ℕ) (v : View) : Type 0 where
+pub record HoldsOfPass (p : Plan) (n : ℕ) (v : View) : Type 0 where
   pub kept : (x : ℕ) → times x v.kept ≤ times x v.drawn
   pub spent : v.weight ≡ 0 → Spent v
   pub late : 0 < v.weight → v.done ≡ true → p.blocks ≤ n
@@ -88,7 +88,7 @@ pub record Ruled (p : Plan) (s : State S View) : Type 0 where
       → total_of (drawn_of x) s.views ≡ once_below x (min (slice_index s.words 0) p.blocks)
   pub weights : total_of weight_of s.views ≡ p.passes
   pub room : slice_index s.words 0 + total_of open_weight s.views ≤ p.blocks + p.passes
-  pub each : (i : ℕ) (v : View) → get_elem? s.views i ≡ some v → Fits p (slice_index s.words 0) v
+  pub each : (i : ℕ) (v : View) → get_elem? s.views i ≡ some v → HoldsOfPass p (slice_index s.words 0) v
   pub turn : Turned p (slice_index s.words 1) s.homes s.views
 
 -- ---- what the steps do to a pass
@@ -146,7 +146,7 @@ pub record MayGive (v : View) (blocks : List ℕ) : Type 0 where
   pub drawn : (x : ℕ) → times x v.kept + times x (past v.found blocks) ≤ times x v.drawn
 
 -- what a pass that takes the turn knows of the book: none of its open blocks is there, and all its kept ones are
-pub record Finds (v : View) (b : BookValue) : Type 0 where
+pub record KnowsBook (v : View) (b : BookValue) : Type 0 where
   pub is_of : IsBookOf v.plan b
   pub apart : (x : ℕ) → times x b.blocks + times x v.drawn ≤ 1 + times x v.kept
   pub kept : (x : ℕ) → times x v.kept ≤ times x b.blocks

@@ -5,7 +5,7 @@ use mathlib.Core.Option.{some}
 use lib.ListN.{get_elem?}
 use Rattle.atomic_table.specs.Table.{State, Me, keeps, takes, gives, stepped, opening}
 use Rattle.lift_core.specs.Times.{times, total_of, once_below}
-use Rattle.lift_core.specs.PureMachine.{CoreState, core_start, IsAllowed, after_draw, after_put, Runs}
+use Rattle.lift_core.specs.PureMachine.{CoreState, core_start, MayCome, after_draw, after_put, Runs}
 use Rattle.lift_core.specs.declared.machine.Event.{Event}
 use Rattle.lift_core.specs.declared.machine.Event.TheVariants.{Draw, Put, Close}
 use Rattle.norm_board.specs.Books.{BookValue}
@@ -59,7 +59,7 @@ abbrev pub DrawsShow : Type 0
 DrawsShow =
     (p : Plan) (s : State S View) (c : CoreState) (id : ℕ) (me : Me S View) → Showing p s c id me.0
     → 0 < me.0.weight → counter s < p.blocks
-    → (q : ℕ) × IsAllowed c (Draw q)
+    → (q : ℕ) × MayCome c (Draw q)
     × Shows p (stepped s 0 (counter s + 1) id me.1 (gained me.0 (counter s)) keeps) (after_draw c q)
 
 -- a draw that finds no block left shows the same state
@@ -84,7 +84,7 @@ GivesShow =
     (p : Plan) (s : State S View) (c : CoreState) (id : ℕ) (v : View) (b : BookValue)
     → Showing p s c id v
     → v.weight ≡ 1 → MayGive v b.blocks → ((x : ℕ) → times x v.kept + times x (past v.found b.blocks) ≡ times x v.drawn)
-    → (q : ℕ) × IsAllowed c (Put q)
+    → (q : ℕ) × MayCome c (Put q)
     × Shows p (stepped s 1 0 id ((0, Some b) ∷ []) (giving v b.blocks) gives) (after_put c q)
 
 -- giving it back with the book as it was shows the same state

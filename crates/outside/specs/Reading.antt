@@ -14,12 +14,12 @@ ReadsFile limit file (Err Failed) = Unit {0}
 ReadsFile limit file (Err Memory) = Unit {0}
 
 -- what was read is at most as long as the limit, and what was not is longer, also where the folder tells nothing
-abbrev pub IsWithin : ℕ → Result (Option (Vec ℕ)) ReadEnd → Type 0
-IsWithin limit (Ok None) = Unit {0}
-IsWithin limit (Ok (Some v)) = length v.items ≤ limit
-IsWithin limit (Err (TooLong len)) = limit < len
-IsWithin limit (Err Failed) = Unit {0}
-IsWithin limit (Err Memory) = Unit {0}
+abbrev pub KeepsLimit : ℕ → Result (Option (Vec ℕ)) ReadEnd → Type 0
+KeepsLimit limit (Ok None) = Unit {0}
+KeepsLimit limit (Ok (Some v)) = length v.items ≤ limit
+KeepsLimit limit (Err (TooLong len)) = limit < len
+KeepsLimit limit (Err Failed) = Unit {0}
+KeepsLimit limit (Err Memory) = Unit {0}
 
 -- one more piece of the file: a front of it stays a front, and grows unless the file is read to its end
 pub record ReadsMore (file old new : List ℕ) (more : Bool) : Type 0 where

@@ -4,7 +4,7 @@ ghost use Rattle.std.specs.Prelude.{◌≡◌, ◌≤◌, ◌<◌, ◌+◌, leng
 ghost use Rattle.std.specs.FinMap.{get};
 ghost use Rattle.outside.specs.Files.{bytes_of};
 ghost use Rattle.outside.specs.Causes.{HasCause};
-ghost use Rattle.outside.specs.Reading.{ReadsFile, ReadsMore, HasReadCause, IsWithin};
+ghost use Rattle.outside.specs.Reading.{ReadsFile, ReadsMore, HasReadCause, KeepsLimit};
 
 use crate::{Folder, PutEnd, ReadEnd};
 use std::alloc::Global;
@@ -73,7 +73,7 @@ pub fn read_all<F: Folder>(
 ) -> Result<Option<Vec<u8>>, ReadEnd>
     ensures same { F.held folder.new ≡ F.held folder.old }
     ensures found { IfSome (F.held folder.old) (λ files. ReadsFile limit (get files name.now) result) }
-    ensures within { IsWithin limit result }
+    ensures within { KeepsLimit limit result }
     ensures cause { HasReadCause (F.faults folder.old) (F.faults folder.new) result }
 {
     let Some(len) = folder.size(name)? else {

@@ -11,8 +11,8 @@ use Rattle.row_pool.specs.Rows.{PoolValue}
 use Rattle.reduce_tree.specs.Items.{size_of, IsKeyOf}
 use Rattle.reduce_tree.specs.Signatures.{signature_of}
 use Rattle.reduce_tree.specs.Tree.{TreeValue, StandsAt, Fits}
-use Rattle.reduce_tree.specs.Inside.Filing.{Leads, second_of, third_of, bucket_at, bucket_count, KeepsIndex, in_bucket, IsTree}
-use Rattle.reduce_tree.specs.Inside.Tiers.{BranchValue, IsStep, kid_at, KeepsSteps}
+use Rattle.reduce_tree.specs.Inside.Filing.{LeadsToBucket, second_of, third_of, bucket_at, bucket_count, KeepsIndex, in_bucket, IsTree}
+use Rattle.reduce_tree.specs.Inside.Tiers.{BranchValue, HasKidAt, kid_at, KeepsSteps}
 use Rattle.reduce_tree.proofs.Trees.{tree_value}
 
 -- ---- lists of filed rows
@@ -34,7 +34,7 @@ all_change P Q (f ∷ fs) g h = (g f h.0, all_change P Q fs g h.1)
 
 -- ---- what leads to a bucket
 -- a key leads on where each step of the tiers stays
-leads_on : (old new : Index) (key : Key) (b : ℕ) → KeepsSteps old.first new.first → KeepsSteps old.second new.second → KeepsSteps old.third new.third → Leads old key b → Leads new key b
+leads_on : (old new : Index) (key : Key) (b : ℕ) → KeepsSteps old.first new.first → KeepsSteps old.second new.second → KeepsSteps old.third new.third → LeadsToBucket old key b → LeadsToBucket new key b
 leads_on old new key b first second third h =
     let one = first key.part key.first h.first in
     let two = second (second_of old key) key.second h.second in
@@ -43,8 +43,8 @@ leads_on old new key b first second third h =
     let three = third (third_of old key) key.third h.third in
     record {
       first = one.0;
-      second = subst (λ n. IsStep new.second n key.second) (sym at_two) two.0;
-      third = subst (λ n. IsStep new.third n key.third) (sym at_three) three.0;
+      second = subst (λ n. HasKidAt new.second n key.second) (sym at_two) two.0;
+      third = subst (λ n. HasKidAt new.third n key.third) (sym at_three) three.0;
       bucket = ap (λ n. kid_at new.third n key.third) at_three ∙ three.1 ∙ h.bucket;
     }
 
@@ -58,7 +58,7 @@ tree_kept width levels fs old new h k = record {
   few_levels = h.few_levels;
   few = h.few;
   inside = all_change (λ f. f.bucket < bucket_count old) (λ f. f.bucket < bucket_count new) fs (λ f l. omega (arith, l, k.count)) h.inside;
-  leads = all_change (λ f. Leads old f.key f.bucket) (λ f. Leads new f.key f.bucket) fs (λ f l. leads_on old new f.key f.bucket k.first k.second k.third l) h.leads;
+  leads = all_change (λ f. LeadsToBucket old f.key f.bucket) (λ f. LeadsToBucket new f.key f.bucket) fs (λ f l. leads_on old new f.key f.bucket k.first k.second k.third l) h.leads;
   contents = λ b. k.buckets b ∙ h.contents b;
 }
 
@@ -71,7 +71,7 @@ pub record IsSet (old new : Index) (b : ℕ) (bucket : List Filed) : Type 0 wher
   pub buckets : new.buckets.items ≡ set old.buckets.items b bucket
 
 module _ (old new : Index) (b : ℕ) (bucket : List Filed) (s : IsSet old new b bucket) where
-  set_leads : (key : Key) (n : ℕ) → Leads old key n → Leads new key n
+  set_leads : (key : Key) (n : ℕ) → LeadsToBucket old key n → LeadsToBucket new key n
   set_leads key n = leads_on old new key n (steps_same old.first new.first s.first) (steps_same old.second new.second s.second) (steps_same old.third new.third s.third)
 
   set_count : bucket_count new ≡ bucket_count old
@@ -106,14 +106,14 @@ bucket_is : (index : Index) (b : ℕ) (bucket : List Filed) → b < bucket_count
 bucket_is index b bucket l e = e ∙ get_or_default index.buckets.items b bucket [] l
 
 module _ (width levels : ℕ) (fs : List Filed) (f : Filed) (index new : Index) (old bucket : List Filed) (s : IsSet index new f.bucket bucket) where
-  pub tree_more : IsTree width levels fs index → f.bucket < bucket_count index → Leads index f.key f.bucket → length fs + 1 < 4294967296 → old ≡ get_or index.buckets.items f.bucket old → bucket ≡ old ++ f ∷ []
+  pub tree_more : IsTree width levels fs index → f.bucket < bucket_count index → LeadsToBucket index f.key f.bucket → length fs + 1 < 4294967296 → old ≡ get_or index.buckets.items f.bucket old → bucket ≡ old ++ f ∷ []
       → IsTree width levels (fs ++ f ∷ []) new
   tree_more h inside leads few is more = record {
     narrow = h.narrow;
     few_levels = h.few_levels;
     few = omega (arith, few, length-append fs (f ∷ []));
     inside = subst (λ n. AllByRecursion (λ (g : Filed). g.bucket < n) (fs ++ f ∷ [])) (sym (set_count index new f.bucket bucket s)) (all_append (λ g. g.bucket < bucket_count index) fs f h.inside inside);
-    leads = all_change (λ g. Leads index g.key g.bucket) (λ g. Leads new g.key g.bucket) (fs ++ f ∷ []) (λ g. set_leads index new f.bucket bucket s g.key g.bucket) (all_append (λ g. Leads index g.key g.bucket) fs f h.leads leads);
+    leads = all_change (λ g. LeadsToBucket index g.key g.bucket) (λ g. LeadsToBucket new g.key g.bucket) (fs ++ f ∷ []) (λ g. set_leads index new f.bucket bucket s g.key g.bucket) (all_append (λ g. LeadsToBucket index g.key g.bucket) fs f h.leads leads);
     contents = λ b. elim (cases_eq b f.bucket) [
       | inl e ↦
           subst (λ n. bucket_at new n ≡ in_bucket n (fs ++ f ∷ [])) (sym e)
@@ -129,7 +129,7 @@ module _ (width levels : ℕ) (fs : List Filed) (f : Filed) (index new : Index) 
     few_levels = h.few_levels;
     few = omega (arith, h.few, length-append fs (f ∷ []));
     inside = subst (λ n. AllByRecursion (λ (g : Filed). g.bucket < n) fs) (sym (set_count index new f.bucket bucket s)) (all_front (λ g. g.bucket < bucket_count index) fs f h.inside);
-    leads = all_change (λ g. Leads index g.key g.bucket) (λ g. Leads new g.key g.bucket) fs (λ g. set_leads index new f.bucket bucket s g.key g.bucket) (all_front (λ g. Leads index g.key g.bucket) fs f h.leads);
+    leads = all_change (λ g. LeadsToBucket index g.key g.bucket) (λ g. LeadsToBucket new g.key g.bucket) fs (λ g. set_leads index new f.bucket bucket s g.key g.bucket) (all_front (λ g. LeadsToBucket index g.key g.bucket) fs f h.leads);
     contents = λ b. elim (cases_eq b f.bucket) [
       | inl e ↦
           let inside : f.bucket < bucket_count index = all_last (λ g. g.bucket < bucket_count index) fs f h.inside in
@@ -154,7 +154,7 @@ tree_same width levels b fs index new old bucket s h inside is same = record {
   few_levels = h.few_levels;
   few = h.few;
   inside = subst (λ n. AllByRecursion (λ (g : Filed). g.bucket < n) fs) (sym (set_count index new b bucket s)) h.inside;
-  leads = all_change (λ g. Leads index g.key g.bucket) (λ g. Leads new g.key g.bucket) fs (λ g. set_leads index new b bucket s g.key g.bucket) h.leads;
+  leads = all_change (λ g. LeadsToBucket index g.key g.bucket) (λ g. LeadsToBucket new g.key g.bucket) fs (λ g. set_leads index new b bucket s g.key g.bucket) h.leads;
   contents = λ n. elim (cases_eq n b) [
     | inl e ↦ subst (λ m. bucket_at new m ≡ in_bucket m fs) (sym e) (set_here index new b bucket s inside ∙ same ∙ bucket_is index b old inside is ∙ h.contents b)
     | inr d ↦ set_other index new b bucket s n d ∙ h.contents n
@@ -197,12 +197,12 @@ cut_once fs old f e =
 
 -- ---- one more, as it is filed
 -- where the bucket of the row has the number that its key leads to
-pub tree_filed : (width levels b : ℕ) (fs filed : List Filed) (f : Filed) (key : Key) (index new : Index) (old bucket : List Filed) → IsSet index new b bucket → IsTree width levels fs index → b < bucket_count index → Leads index key b
+pub tree_filed : (width levels b : ℕ) (fs filed : List Filed) (f : Filed) (key : Key) (index new : Index) (old bucket : List Filed) → IsSet index new b bucket → IsTree width levels fs index → b < bucket_count index → LeadsToBucket index key b
     → f.bucket ≡ b → f.key ≡ key → filed ≡ fs ++ f ∷ [] → length fs + 1 < 4294967296 → old ≡ get_or index.buckets.items b old → bucket ≡ old ++ f ∷ [] → IsTree width levels filed new
 tree_filed width levels b fs filed f key index new old bucket s h inside leads e k all few is more =
     subst (λ (l : List Filed). IsTree width levels l new) (sym all)
     (tree_more width levels fs f index new old bucket (subst (λ n. IsSet index new n bucket) (sym e) s) h (subst (λ n. n < bucket_count index) (sym e) inside)
-    (subst (λ j. Leads index j f.bucket) (sym k) (subst (λ n. Leads index key n) (sym e) leads)) few (subst (λ n. old ≡ get_or index.buckets.items n old) (sym e) is) more)
+    (subst (λ j. LeadsToBucket index j f.bucket) (sym k) (subst (λ n. LeadsToBucket index key n) (sym e) leads)) few (subst (λ n. old ≡ get_or index.buckets.items n old) (sym e) is) more)
 
 pub filed_stands : (levels place : ℕ) (rows : List (List ℤ)) (row : List ℤ) (f : Filed) (key : Key) → row ≡ get_or rows place [] → place < length rows → f.place ≡ place → f.key ≡ key → IsKeyOf row f.bits key → f.size ≡ size_of row → f.bits ≡ signature_of levels row
     → StandsAt levels rows f

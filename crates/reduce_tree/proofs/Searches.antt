@@ -12,30 +12,30 @@ use Rattle.reduce_tree.specs.declared.index.Index.{Index}
 use Rattle.reduce_tree.specs.declared.tree.Filed.{Filed}
 use Rattle.reduce_tree.specs.Inside.Buckets.{IsMarked, AreNoneBelow, IsBelowAt}
 use Rattle.reduce_tree.specs.Inside.Filing.{bucket_at, bucket_count}
-use Rattle.reduce_tree.specs.Inside.Searches.{AreAllMarked, AllKids, HasNoneIn, IsBelowIn, IsLeft}
-use Rattle.reduce_tree.specs.Inside.Tiers.{BranchValue, IsStep, kid_at}
+use Rattle.reduce_tree.specs.Inside.Searches.{AreAllMarked, AllKids, HasNoneIn, IsBelowIn, HoldsOfSearched}
+use Rattle.reduce_tree.specs.Inside.Tiers.{BranchValue, HasKidAt, kid_at}
 use Rattle.reduce_tree.proofs.Bits.{set_shared}
 
 -- ---- the loop
 module _ (tier : List BranchValue) (classes : ℕ) (P : ℕ → Type 0) (n : ℕ) where
-  pub left_begun : (there : ℕ) → ((c : ℕ) → IsStep tier n c → bit_at there c ≡ 1) → IsLeft tier classes (bit_and there classes) P n
+  pub left_begun : (there : ℕ) → ((c : ℕ) → HasKidAt tier n c → bit_at there c ≡ 1) → HoldsOfSearched tier classes (bit_and there classes) P n
   left_begun there all = λ c e s. inl (set_shared there classes c (all c s) e)
 
   -- the kid that was read is that of the class
-  pub kid_read : (class kid : ℕ) → (IsStep tier n class → Some kid ≡ Some (kid_at tier n class)) → P kid → IsStep tier n class → P (kid_at tier n class)
+  pub kid_read : (class kid : ℕ) → (HasKidAt tier n class → Some kid ≡ Some (kid_at tier n class)) → P kid → HasKidAt tier n class → P (kid_at tier n class)
   kid_read class kid read p s = let e = read s in let same : kid ≡ kid_at tier n class = cc in subst P same p
 
   -- the kid of the class that is taken out has been looked at
-  pub left_less : (rest less class : ℕ) → ((c : ℕ) → c ≢ class → bit_at rest c ≡ 1 → bit_at less c ≡ 1) → (IsStep tier n class → P (kid_at tier n class)) → IsLeft tier classes rest P n → IsLeft tier classes less P n
+  pub left_less : (rest less class : ℕ) → ((c : ℕ) → c ≢ class → bit_at rest c ≡ 1 → bit_at less c ≡ 1) → (HasKidAt tier n class → P (kid_at tier n class)) → HoldsOfSearched tier classes rest P n → HoldsOfSearched tier classes less P n
   left_less rest less class others here left = λ c e s. elim (cases_eq c class) [
-    | inl same ↦ inr (subst (λ k. IsStep tier n k → P (kid_at tier n k)) (sym same) here s)
+    | inl same ↦ inr (subst (λ k. HasKidAt tier n k → P (kid_at tier n k)) (sym same) here s)
     | inr d ↦ elim (left c e s) [
       | inl set ↦ inl (others c d set)
       | inr p ↦ inr p
     ]
   ]
 
-  pub left_ended : (rest : ℕ) → rest ≡ 0 → IsLeft tier classes rest P n → AllKids tier classes P n
+  pub left_ended : (rest : ℕ) → rest ≡ 0 → HoldsOfSearched tier classes rest P n → AllKids tier classes P n
   left_ended rest none left = λ c e s. elim (left c e s) [
     | inl set ↦ absurd (differ (bit_at rest c) set (ap (λ m. bit_at m c) none ∙ bit_at-zero c))
     | inr p ↦ p

@@ -12,11 +12,11 @@ use Rattle.row_pool.specs.Rows.{PoolValue}
 use Rattle.reduce_tree.specs.declared.bounds.Bounds.{Bounds}
 use Rattle.reduce_tree.specs.declared.index.Index.{Index}
 use Rattle.reduce_tree.specs.declared.tree.Filed.{Filed}
-use Rattle.reduce_tree.specs.Items.{part_of, size_of, IsClassOf}
+use Rattle.reduce_tree.specs.Items.{part_of, size_of, IsRowClass}
 use Rattle.reduce_tree.specs.Signatures.{signature_of}
 use Rattle.reduce_tree.specs.Tree.{TreeValue, place_of, places_of, StandsAt, Fits, AreNotBelow, AreNotBelowBefore}
 use Rattle.reduce_tree.specs.Inside.Buckets.{nothing_filed, IsMarked, IsNotBelow, AreNoneBelow, IsBelowAt}
-use Rattle.reduce_tree.specs.Inside.Filing.{Leads, in_bucket, IsTree}
+use Rattle.reduce_tree.specs.Inside.Filing.{LeadsToBucket, in_bucket, IsTree}
 use Rattle.reduce_tree.specs.Inside.Searches.{AreAllMarked, HasNoneIn, HasNoneUnderFirst, IsBelowIn}
 use Rattle.std.proofs.lemmas.Nat.Bits.{bit_at-lt, bit_at_set_same}
 use Rattle.reduce_tree.specs.Bits.{IsPartOf}
@@ -72,7 +72,7 @@ pub fits_rows : (t : TreeValue) (width levels : ℕ) (filed : List Filed) (pool 
 fits_rows t width levels filed pool e fits = (subst (λ v. Fits v pool) (sym e) fits).rows
 
 -- a class by a part of a signature is one by the whole
-class_above : (a b c : ℕ) → IsPartOf a b → IsClassOf a c → IsClassOf b c
+class_above : (a b c : ℕ) → IsPartOf a b → IsRowClass a c → IsRowClass b c
 class_above a b c h (inl e) = inl e
 class_above a b c h (inr e) = inr (both (bit_at a c) (bit_at b c) (h c) e (bit_at-lt b c))
   where
@@ -81,7 +81,7 @@ class_above a b c h (inr e) = inr (both (bit_at a c) (bit_at b c) (h c) e (bit_a
 
 -- ---- the bounds of a search for a row below z
 pub record IsBoundsOf (levels : ℕ) (z : List ℤ) (bounds : Bounds) : Type 0 where
-  pub classes : (c : ℕ) → IsClassOf (signature_of levels z) c → bit_at bounds.classes c ≡ 1
+  pub classes : (c : ℕ) → IsRowClass (signature_of levels z) c → bit_at bounds.classes c ≡ 1
   pub outside : bounds.outside ≡ bit_not w128 (signature_of levels z)
   pub size : bounds.size ≡ size_of z
 
@@ -111,8 +111,8 @@ module _ (width levels : ℕ) (filed : List Filed) (index : Index) (tree : IsTre
       → (k : ℕ) → k < length filed → IsNotBelow rows z bounds (get_or filed k nothing_filed)
   none_of of stands first second k l = λ before below.
       let s : StandsAt levels rows (get_or filed k nothing_filed) = filed_at (StandsAt levels rows) filed k stands l in
-      let leads : Leads index (get_or filed k nothing_filed).key (get_or filed k nothing_filed).bucket = filed_at (λ f. Leads index f.key f.bucket) filed k tree.leads l in
-      let has : (c : ℕ) → IsClassOf (get_or filed k nothing_filed).bits c → bit_at bounds.classes c ≡ 1 =
+      let leads : LeadsToBucket index (get_or filed k nothing_filed).key (get_or filed k nothing_filed).bucket = filed_at (λ f. LeadsToBucket index f.key f.bucket) filed k tree.leads l in
+      let has : (c : ℕ) → IsRowClass (get_or filed k nothing_filed).bits c → bit_at bounds.classes c ≡ 1 =
       λ c h. of.classes c (class_above (get_or filed k nothing_filed).bits (signature_of levels z) c (subst (λ b. IsPartOf b (signature_of levels z)) (sym s.bits) (signature_part levels 0 (get_or rows (get_or filed k nothing_filed).place []) z below)) h) in
       let none : HasNoneUnderFirst index rows z bounds (get_or filed k nothing_filed).key.part =
       elim (part_above (get_or rows (get_or filed k nothing_filed).place []) z below) [
@@ -177,8 +177,8 @@ abbrev pub bounds_with : ℕ → ℕ → ℕ → Bounds
 bounds_with bits size end = record { classes = bit_or bits (1 * 2 ^ 127 % 2 ^ 128); outside = bit_not w128 bits; size = size; end = end }
 
 pub are_bounds : (levels : ℕ) (z : List ℤ) (bits size end : ℕ) → bits ≡ signature_of levels z → size ≡ size_of z → IsBoundsOf levels z (bounds_with bits size end)
-are_bounds levels z bits size end s n = record { classes = λ c h. classes c (subst (λ b. IsClassOf b c) (sym s) h); outside = ap (bit_not w128) s; size = n }
+are_bounds levels z bits size end s n = record { classes = λ c h. classes c (subst (λ b. IsRowClass b c) (sym s) h); outside = ap (bit_not w128) s; size = n }
   where
-    classes : (c : ℕ) → IsClassOf bits c → bit_at (bit_or bits (1 * 2 ^ 127 % 2 ^ 128)) c ≡ 1
+    classes : (c : ℕ) → IsRowClass bits c → bit_at (bit_or bits (1 * 2 ^ 127 % 2 ^ 128)) c ≡ 1
     classes c (inl e) = subst (λ i. bit_at (bit_or bits (1 * 2 ^ 127 % 2 ^ 128)) i ≡ 1) (sym e) (bit_at_set_same w128 bits 127 (omega arith))
     classes c (inr e) = set_kept bits (1 * 2 ^ 127 % 2 ^ 128) c e

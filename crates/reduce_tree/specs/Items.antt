@@ -9,8 +9,8 @@ item_at column (pos n) = 2 * column
 item_at column (negsuc n) = 2 * column + 1
 
 -- a class of a row is 127, which each row has, or the number of a bit of its signature
-abbrev pub IsClassOf : ℕ → ℕ → Type 0
-IsClassOf bits c = (c ≡ 127) ⊎ (bit_at bits c ≡ 1)
+abbrev pub IsRowClass : ℕ → ℕ → Type 0
+IsRowClass bits c = (c ≡ 127) ⊎ (bit_at bits c ≡ 1)
 
 -- the last entry, and 0 where there is none
 abbrev pub last_of : List ℤ → ℤ
@@ -32,6 +32,6 @@ size_of row = min (nat_abs (last_of row)) 4294967295
 -- the part of a row, and three classes that it has by its signature
 pub record IsKeyOf (row : List ℤ) (bits : ℕ) (key : Key) : Type 0 where
   pub part : key.part ≡ part_of row
-  pub first : IsClassOf bits key.first
-  pub second : IsClassOf bits key.second
-  pub third : IsClassOf bits key.third
+  pub first : IsRowClass bits key.first
+  pub second : IsRowClass bits key.second
+  pub third : IsRowClass bits key.third

@@ -1,7 +1,7 @@
 //! The index of a tree: three tiers that lead from a key to the bucket of its rows, and the search down these tiers.
 
 ghost use Rattle.std.specs.Prelude.{◌≡◌, ◌<◌, ◌≤◌, ℕ, [], length, slice_index_or, IfOk, OnOk, MatchOption};
-ghost use Rattle.reduce_tree.specs.Inside.Filing.{Leads, KeepsIndex, bucket_at, bucket_count};
+ghost use Rattle.reduce_tree.specs.Inside.Filing.{LeadsToBucket, KeepsIndex, bucket_at, bucket_count};
 ghost use Rattle.reduce_tree.specs.Inside.Searches.{AreAllMarked, HasNoneUnderThird, HasNoneUnderSecond, HasNoneUnderFirst, IsBelowIn};
 
 use crate::bounds::Bounds;
@@ -42,7 +42,7 @@ impl Index {
         requires second { key.now.second < 128 }
         requires third { key.now.third < 128 }
         ensures kept { KeepsIndex self.old self.new }
-        ensures leads { IfOk result (λ b. Leads self.new key.now b) }
+        ensures leads { IfOk result (λ b. LeadsToBucket self.new key.now b) }
         ensures there { IfOk result (λ b. b < bucket_count self.new) }
     {
         let second = self.first.step(u32::from(key.part), key.first)?;

@@ -5,7 +5,7 @@
 //! one, and a search looks at more rows than it need.
 
 ghost use Rattle.std.specs.Prelude.{◌≡◌, ◌≢◌, ◌+◌, ◌*◌, ◌<◌, ◌≤◌, ℕ, pos, length, slice_index_or};
-ghost use Rattle.reduce_tree.specs.Items.{item_at, part_at, part_of, size_of, IsClassOf, IsKeyOf};
+ghost use Rattle.reduce_tree.specs.Items.{item_at, part_at, part_of, size_of, IsRowClass, IsKeyOf};
 
 /// A row's part, and the classes of its first three items: 127 for each that it does not have.
 #[derive(Clone, Copy)]
@@ -64,7 +64,7 @@ fn first_from(row: &[i64], from: usize) -> usize
 fn class_in(row: &[i64], column: usize, levels: usize, bits: u128) -> u8
     requires narrow { length row.now ≤ 130 }
     requires levels { levels ≤ 16 }
-    ensures class { IsClassOf bits result }
+    ensures class { IsRowClass bits result }
     ensures most { result < 128 }
 {
     if column < row.len() {

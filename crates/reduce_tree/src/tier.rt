@@ -2,7 +2,7 @@
 
 ghost use Rattle.std.specs.Prelude.{◌≡◌, ◌≢◌, ◌<◌, ◌≤◌, ℕ, [], length, slice_index_or, IfOk, OnOk, MatchOption, Some};
 ghost use Rattle.std.specs.Int.{bit_at};
-ghost use Rattle.reduce_tree.specs.Inside.Tiers.{empty_branch, IsKid, kid_of, KeepsKids, IsStep, kid_at, KeepsSteps};
+ghost use Rattle.reduce_tree.specs.Inside.Tiers.{empty_branch, IsKid, kid_of, KeepsKids, HasKidAt, kid_at, KeepsSteps};
 
 use std::alloc::{AllocError, Global};
 use std::marker::Model;
@@ -121,7 +121,7 @@ impl Tier {
 
     /// The classes that have a kid in a branch.
     pub fn classes(&self, branch: u32) -> u128
-        ensures { (c : ℕ) → IsStep self.now branch c → bit_at result c ≡ 1 }
+        ensures { (c : ℕ) → HasKidAt self.now branch c → bit_at result c ≡ 1 }
     {
         if branch as usize >= self.branches.len() {
             return 0;
@@ -132,7 +132,7 @@ impl Tier {
     /// The kid of a class in a branch.
     pub fn kid(&self, branch: u32, class: u8) -> Option<u32>
         requires { class < 128 }
-        ensures { IsStep self.now branch class → result ≡ Some (kid_at self.now branch class) }
+        ensures { HasKidAt self.now branch class → result ≡ Some (kid_at self.now branch class) }
     {
         if branch as usize >= self.branches.len() {
             return None;
@@ -145,7 +145,7 @@ impl Tier {
         requires { class < 128 }
         ensures kept { KeepsSteps self.old self.new }
         ensures step { IfOk result
-            (λ kid. IsStep self.new branch class × (kid_at self.new branch class ≡ kid)) }
+            (λ kid. HasKidAt self.new branch class × (kid_at self.new branch class ≡ kid)) }
     {
         self.grow(branch)?;
         if let Some(kid) = self.branches[branch as usize].kid(class) {

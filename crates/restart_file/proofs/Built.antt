@@ -11,15 +11,15 @@ use Rattle.stage_store.specs.Stage.{IsStage, IsStageRow, StageValue}
 use Rattle.int_vector.specs.Vectors.{largest}
 use Rattle.restart_file.specs.declared.drafts.Draft.{Draft}
 use Rattle.restart_file.specs.Texts.{progress_of}
-use Rattle.restart_file.specs.Reading.{IsPlace}
+use Rattle.restart_file.specs.Reading.{IsStagePlace}
 use Rattle.restart_file.specs.Inside.Drafts.{is_placed, progress_in}
-use Rattle.restart_file.specs.Inside.Ways.{IsWhole}
+use Rattle.restart_file.specs.Inside.Ways.{IsAllRead}
 
 pub rows_small : (S : ToolSystem) (k : ℕ) (rows : List (List ℤ)) → AllByRecursion (IsStageRow S.equations k) rows → AllByRecursion (λ z. stage_norm z ≤ largest) rows
 rows_small S k rows h = each_from_contained (λ z. stage_norm z ≤ largest) rows (λ z c. (each_contained (IsStageRow S.equations k) rows z h c).small)
 
-module _ (S : ToolSystem) (d : Draft) (fits : IsToolSystem S) (whole : IsWhole S d) where
-  placed : IsPlace S d.number d.norm
+module _ (S : ToolSystem) (d : Draft) (fits : IsToolSystem S) (whole : IsAllRead S d) where
+  placed : IsStagePlace S d.number d.norm
   placed = whole.sound.place (ap is_placed whole.last)
 
   pub is_stage : IsStage (stage_of S d.number d.norm d.used d.listed.rows d.waiting.rows)

@@ -3,7 +3,7 @@ use Rattle.std.proofs.Common.{◌≡◌, ◌≢◌, ◌<◌, ◌≤◌, ℕ, suc
 use Rattle.std.specs.Prelude.{ℤ, pos, nat_abs, int_lt, map, decimal, codes, MatchOption}
 use Rattle.std.specs.List.{AllByRecursion, All}
 use Rattle.lift_core.specs.Systems.{ToolSystem}
-use Rattle.restart_file.specs.Reading.{IsPlace, is_place_line}
+use Rattle.restart_file.specs.Reading.{IsStagePlace, is_place_line}
 use Rattle.std.proofs.lemmas.Int.{ints}
 use Rattle.std.proofs.lemmas.List.{take_all, length-map, get_or-map}
 use Rattle.int_vector.specs.Range.{InRange}
@@ -73,14 +73,14 @@ second_of : List ℕ → ℕ
 second_of ns = get_or ns 1 0
 
 pub place_found : (S : ToolSystem) (line counts : List ℕ) (a b : ℕ) (r : Option (ℕ × ℕ)) → counts ≡ a ∷ b ∷ [] → line ≡ counts_line (codes "place ") counts
-    → ((k d : ℕ) → IsPlace S k d → line ≡ is_place_line k d → counts ≡ k ∷ d ∷ [])
-    → MatchOption r (IsPlace S a b → ⊥) (λ p. IsPlace S a b × ((p.0 ≡ a) × (p.1 ≡ b)))
-    → MatchOption r ((k d : ℕ) → IsPlace S k d → line ≢ is_place_line k d) (λ p. IsPlace S p.0 p.1 × (line ≡ is_place_line p.0 p.1))
+    → ((k d : ℕ) → IsStagePlace S k d → line ≡ is_place_line k d → counts ≡ k ∷ d ∷ [])
+    → MatchOption r (IsStagePlace S a b → ⊥) (λ p. IsStagePlace S a b × ((p.0 ≡ a) × (p.1 ≡ b)))
+    → MatchOption r ((k d : ℕ) → IsStagePlace S k d → line ≢ is_place_line k d) (λ p. IsStagePlace S p.0 p.1 × (line ≡ is_place_line p.0 p.1))
 unfolding first_of second_of
 place_found S line counts a b None two is only h = λ k d place e.
     let same : (a ∷ b ∷ []) ≡ (k ∷ d ∷ []) = sym two ∙ only k d place e in
-    h (subst₂ (λ x y. IsPlace S x y) (sym (ap first_of same)) (sym (ap second_of same)) place)
+    h (subst₂ (λ x y. IsStagePlace S x y) (sym (ap first_of same)) (sym (ap second_of same)) place)
 place_found S line counts a b (Some p) two is only h = (
-  subst₂ (λ x y. IsPlace S x y) (sym h.1.0) (sym h.1.1) h.0,
+  subst₂ (λ x y. IsStagePlace S x y) (sym h.1.0) (sym h.1.1) h.0,
   is ∙ ap (λ ns. counts_line (codes "place ") ns) (two ∙ ap₂ (λ x y. x ∷ y ∷ []) (sym h.1.0) (sym h.1.1)),
 )

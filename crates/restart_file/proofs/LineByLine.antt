@@ -13,16 +13,16 @@ use Rattle.restart_file.specs.declared.ends.RestartEnd.TheVariants.{Bad, Failed,
 use Rattle.restart_file.specs.declared.ends.RestartFault.TheVariants.{Missing, Text}
 use Rattle.restart_file.specs.declared.windows.Window.{Window}
 use Rattle.restart_file.specs.Texts.{Progress}
-use Rattle.restart_file.specs.Reading.{Cursor, HasNoLine, IsLine, IsSealed, Reads, reading_lines, reading_missing, reads_fault, reads_more, reads_no_line, reads_on, start}
+use Rattle.restart_file.specs.Reading.{Cursor, HasNoLine, IsLine, IsSealed, ReadsToEnd, reading_lines, reading_missing, reads_fault, reads_more, reads_no_line, reads_on, start}
 use Rattle.restart_file.specs.Stored.{HasRestartCause, Restores}
-use Rattle.restart_file.specs.Inside.Drafts.{IsSound, ReadsTo, Steps, progress_in}
-use Rattle.restart_file.specs.Inside.Ways.{Builds, IsOnTheWay, IsRead, ReadsLine}
-use Rattle.restart_file.specs.Inside.Windows.{IsLeft, Tells}
+use Rattle.restart_file.specs.Inside.Drafts.{IsTrueSoFar, ReadsTo, TakesLine, progress_in}
+use Rattle.restart_file.specs.Inside.Ways.{Builds, IsOnTheWay, IsLineRead, ReadsLine}
+use Rattle.restart_file.specs.Inside.Windows.{IsTextLeft, TellsText}
 use Rattle.restart_file.proofs.Steps.{sound_step}
 
 -- ---- one line
 pub line_read : {T : Type 0} (S : ToolSystem) (text rest line : List ℕ) (w : Window) (c next : Cursor) (l : ℕ) (r : Result T RestartEnd)
-    → IsLine line × ((others : List ℕ) × (rest ≡ line ++ others) × IsLeft text w others) → Steps S c.version c.due c.so_far line l next r → ReadsLine S text rest w c next l r
+    → IsLine line × ((others : List ℕ) × (rest ≡ line ++ others) × IsTextLeft text w others) → TakesLine S c.version c.due c.so_far line l next r → ReadsLine S text rest w c next l r
 line_read S text rest line w c next l (Ok t) h s = record {
   others = h.1.0;
   left = h.1.2;
@@ -33,11 +33,11 @@ line_read S text rest line w c next l (Err (Bad f)) h s = reads_fault h.1.0 h.0 
 line_read S text rest line w c next l (Err Failed) h s = tt
 line_read S text rest line w c next l (Err Memory) h s = tt
 
-pub line_sound : {T : Type 0} (S : ToolSystem) (line : List ℕ) (c next : Cursor) (l : ℕ) (r : Result T RestartEnd) → IsSound S c → Steps S c.version c.due c.so_far line l next r → OnOk r (IsSound S next)
+pub line_sound : {T : Type 0} (S : ToolSystem) (line : List ℕ) (c next : Cursor) (l : ℕ) (r : Result T RestartEnd) → IsTrueSoFar S c → TakesLine S c.version c.due c.so_far line l next r → OnOk r (IsTrueSoFar S next)
 line_sound S line c next l (Ok t) sound s = sound_step S c.version c.due c.so_far line next sound s
 line_sound S line c next l (Err e) sound s = tt
 
-pub line_cause : {T : Type 0} (S : ToolSystem) (line : List ℕ) (c next : Cursor) (l : ℕ) (r : Result T RestartEnd) (before now : ℕ) → before ≤ now → Steps S c.version c.due c.so_far line l next r → HasRestartCause before now r
+pub line_cause : {T : Type 0} (S : ToolSystem) (line : List ℕ) (c next : Cursor) (l : ℕ) (r : Result T RestartEnd) (before now : ℕ) → before ≤ now → TakesLine S c.version c.due c.so_far line l next r → HasRestartCause before now r
 line_cause S line c next l (Ok t) before now h s = record { later = h; failed = λ q. absurd cc }
 line_cause S line c next l (Err (Bad f)) before now h s = record { later = h; failed = λ q. absurd cc }
 line_cause S line c next l (Err Failed) before now h s = absurd s
@@ -47,21 +47,21 @@ pub no_line_read : (T : Type 0) (S : ToolSystem) (text rest : List ℕ) (w : Win
 no_line_read T S text rest w c next l e is due h = subst (λ x. ReadsLine {T = T} S text rest w c next l (Err x)) (sym is) (reads_no_line due h)
 
 -- ---- line after line
-pub way_start : (S : ToolSystem) (text : List ℕ) (w : Window) (c : Cursor) → c ≡ start → IsLeft text w text → IsOnTheWay S text w c 1 0
+pub way_start : (S : ToolSystem) (text : List ℕ) (w : Window) (c : Cursor) → c ≡ start → IsTextLeft text w text → IsOnTheWay S text w c 1 0
 way_start S text w c is left = record {
   rest = text;
   left = left;
   fewer = omega arith;
-  leads = λ out r. subst (λ x. Reads S x 1 text out) is r;
+  leads = λ out r. subst (λ x. ReadsToEnd S x 1 text out) is r;
 }
 
 module _ (S : ToolSystem) (text : List ℕ) (w : Window) (c : Cursor) (l turns : ℕ) (way : IsOnTheWay S text w c l turns) where
-  pub way_on : (v : Window) (next : Cursor) → ((rest : List ℕ) → IsLeft text w rest → IsRead S text rest v c next l) → IsOnTheWay S text v next (l + 1) (turns + 1)
+  pub way_on : (v : Window) (next : Cursor) → ((rest : List ℕ) → IsTextLeft text w rest → IsLineRead S text rest v c next l) → IsOnTheWay S text v next (l + 1) (turns + 1)
   way_on v next read =
-      let r : IsRead S text way.rest v c next l = read way.rest way.left in
+      let r : IsLineRead S text way.rest v c next l = read way.rest way.left in
       record { rest = r.others; left = r.left; fewer = omega (arith, r.fewer, way.fewer); leads = λ out h. way.leads out (r.leads out h) }
 
-  pub way_fault : (T : Type 0) (v : Window) (next : Cursor) (e : RestartEnd) → ((rest : List ℕ) → IsLeft text w rest → ReadsLine {T = T} S text rest v c next l (Err e)) → ReadsTo S start 1 text (Err e)
+  pub way_fault : (T : Type 0) (v : Window) (next : Cursor) (e : RestartEnd) → ((rest : List ℕ) → IsTextLeft text w rest → ReadsLine {T = T} S text rest v c next l (Err e)) → ReadsTo S start 1 text (Err e)
   way_fault T v next (Bad f) read = way.leads (Err f) (read way.rest way.left)
   way_fault T v next Failed read = tt
   way_fault T v next Memory read = tt
@@ -90,7 +90,7 @@ lines_bad S text Failed sealed h = tt
 lines_bad S text Memory sealed h = tt
 
 pub stage_restored : (S : ToolSystem) (text : List ℕ) (d : Draft) (r : Result StageValue RestartEnd) → IsSealed text → ReadsTo S start 1 text (Ok d) → Builds S d r → Restores S (Some text) r
-stage_restored S text d (Ok s) sealed h b = (b.0, reading_lines sealed (subst (λ (p : Progress). Reads S start 1 text (Ok p)) (sym b.1) h))
+stage_restored S text d (Ok s) sealed h b = (b.0, reading_lines sealed (subst (λ (p : Progress). ReadsToEnd S start 1 text (Ok p)) (sym b.1) h))
 stage_restored S text d (Err (Bad f)) sealed h b = absurd b
 stage_restored S text d (Err Failed) sealed h b = absurd b
 stage_restored S text d (Err Memory) sealed h b = tt
@@ -105,7 +105,7 @@ no_file (Some bytes) e = absurd cc
 
 -- there is a file of so many bytes
 pub restored : (S : ToolSystem) (name : List ℕ) (held : Option Files) (o : Option ℕ) (n : ℕ) (r : Result StageValue RestartEnd) → o ≡ Some n → IfSome held (λ files. o ≡ option_map length (get files name))
-    → ((text : List ℕ) → Tells held name text → n ≡ length text → Restores S (Some text) r) → IfSome held (λ files. Restores S (get files name) r)
+    → ((text : List ℕ) → TellsText held name text → n ≡ length text → Restores S (Some text) r) → IfSome held (λ files. Restores S (get files name) r)
 restored S name None o n r is size main = tt
 restored S name (Some files) o n r is size main =
     let f : (bytes : List ℕ) × (get files name ≡ Some bytes) × (n ≡ length bytes) = found_file (get files name) n (sym is ∙ size) in

@@ -19,7 +19,7 @@ use Rattle.restart_file.specs.declared.dues.Due.TheVariants.{FirstLine, SystemLi
 use Rattle.restart_file.specs.declared.ends.RestartFault.{RestartFault}
 use Rattle.restart_file.specs.declared.ends.RestartFault.TheVariants.{Used}
 use Rattle.restart_file.specs.Texts.{Progress, class_counts, counts_line, version_line}
-use Rattle.restart_file.specs.Reading.{AreCounts, Cursor, Follows, HasFault, HasNoLine, HasNoStageRow, HasRowFault, IsCount, IsFor, IsLine, IsNextListed, IsNextWaiting, IsPlace, IsReading, IsRow, Reads, at, is_place_line, listed_due, reading_lines, reading_missing, reading_unsealed, reads_end, reads_fault, reads_more, reads_no_line, reads_on, reads_too_few, start, waiting_due, with_listed, with_place, with_used, with_waiting}
+use Rattle.restart_file.specs.Reading.{AreCounts, Cursor, Follows, HasFault, HasNoLine, HasNoStageRow, HasRowFault, IsCount, IsFor, IsLine, IsNextListed, IsNextWaiting, IsStagePlace, IsReading, IsRow, ReadsToEnd, at, is_place_line, listed_due, reading_lines, reading_missing, reading_unsealed, reads_end, reads_fault, reads_more, reads_no_line, reads_on, reads_too_few, start, waiting_due, with_listed, with_place, with_used, with_waiting}
 use Rattle.restart_file.specs.Inside.Windows.{IsPlain}
 use Rattle.restart_file.specs.Inside.Words.{ends_word}
 use Rattle.restart_file.proofs.CountLines.{all_within, counts_as_cells, counts_in_range, same_counts}
@@ -117,7 +117,7 @@ one_version Second First e = absurd (omega (arith, ap (λ (l : List ℕ). get_or
 second_or : List ℕ → ℕ
 second_or xs = get_or xs 1 0
 
-one_place : (S : ToolSystem) (k d j e : ℕ) → IsToolSystem S → IsPlace S k d → IsPlace S j e → is_place_line k d ≡ is_place_line j e → (k ≡ j) × (d ≡ e)
+one_place : (S : ToolSystem) (k d j e : ℕ) → IsToolSystem S → IsStagePlace S k d → IsStagePlace S j e → is_place_line k d ≡ is_place_line j e → (k ≡ j) × (d ≡ e)
 unfolding head_or second_or
 one_place S k d j e fits a b q =
     let r : (k ∷ d ∷ []) ≡ (j ∷ e ∷ []) = one_counts (codes "place ") (k ∷ d ∷ []) (j ∷ e ∷ []) refl (omega (arith, a.to, fits.most_rows), (a.small, tt)) (omega (arith, b.to, fits.most_rows), (b.small, tt)) q in
@@ -199,12 +199,12 @@ none_wrong S v p line l f due e h = subst (λ (d : Due). HasFault S v d p line l
 
 module _ (S : ToolSystem) (fits : IsToolSystem S) where
   -- a right line is read on
-  peel : (c next : Cursor) (l : ℕ) (bytes line rest : List ℕ) (b : Result Progress RestartFault) → IsLine line → bytes ≡ line ++ rest → Follows S c.version c.due c.so_far line next → Reads S c l bytes b → Reads S next (l + 1) rest b
+  peel : (c next : Cursor) (l : ℕ) (bytes line rest : List ℕ) (b : Result Progress RestartFault) → IsLine line → bytes ≡ line ++ rest → Follows S c.version c.due c.so_far line next → ReadsToEnd S c l bytes b → ReadsToEnd S next (l + 1) rest b
   peel c next l bytes line rest b h e f (reads_on {next = m} {line = line'} {rest = rest'} h' e' f' r) =
       let same : (line' ≡ line) × (rest' ≡ rest) = one_line line' line rest' rest h' h (sym e' ∙ e) in
       let g : Follows S c.version c.due c.so_far line m = subst (λ (t : List ℕ). Follows S c.version c.due c.so_far t m) same.0 f' in
       let n : m ≡ next = one_next S fits c.version c.so_far line c.due m next g f in
-      subst (λ (x : Cursor). Reads S x (l + 1) rest b) n (subst (λ (t : List ℕ). Reads S m (l + 1) t b) same.1 r)
+      subst (λ (x : Cursor). ReadsToEnd S x (l + 1) rest b) n (subst (λ (t : List ℕ). ReadsToEnd S m (l + 1) t b) same.1 r)
   peel c next l bytes line rest b h e f (reads_fault {line = line'} {f = w} rest' h' e' g) =
       let same : (line' ≡ line) × (rest' ≡ rest) = one_line line' line rest' rest h' h (sym e' ∙ e) in
       absurd (no_fault S fits c.version c.so_far line c.due next l w f (subst (λ (t : List ℕ). HasFault S c.version c.due c.so_far t l w) same.0 g))
@@ -214,7 +214,7 @@ module _ (S : ToolSystem) (fits : IsToolSystem S) where
   peel c next l bytes line rest b h e f (reads_end d n q) = absurd (none_follows S c.version c.so_far line next c.due d f)
 
   -- a wrong line has one fault
-  wrong : (c : Cursor) (l : ℕ) (bytes line rest : List ℕ) (g : RestartFault) (b : Result Progress RestartFault) → IsLine line → bytes ≡ line ++ rest → HasFault S c.version c.due c.so_far line l g → Reads S c l bytes b → Err g ≡ b
+  wrong : (c : Cursor) (l : ℕ) (bytes line rest : List ℕ) (g : RestartFault) (b : Result Progress RestartFault) → IsLine line → bytes ≡ line ++ rest → HasFault S c.version c.due c.so_far line l g → ReadsToEnd S c l bytes b → Err g ≡ b
   wrong c l bytes line rest g b h e w (reads_on {next = m} {line = line'} {rest = rest'} h' e' f' r) =
       let same : (line' ≡ line) × (rest' ≡ rest) = one_line line' line rest' rest h' h (sym e' ∙ e) in
       absurd (no_fault S fits c.version c.so_far line c.due m l g (subst (λ (t : List ℕ). Follows S c.version c.due c.so_far t m) same.0 f') w)
@@ -226,7 +226,7 @@ module _ (S : ToolSystem) (fits : IsToolSystem S) where
   wrong c l bytes line rest g b h e w (reads_too_few d n q) = absurd (none_wrong S c.version c.so_far line l g c.due d w)
   wrong c l bytes line rest g b h e w (reads_end d n q) = absurd (none_wrong S c.version c.so_far line l g c.due d w)
 
-  one_end_of : (c : Cursor) (l : ℕ) (bytes : List ℕ) (a b : Result Progress RestartFault) → Reads S c l bytes a → Reads S c l bytes b → a ≡ b
+  one_end_of : (c : Cursor) (l : ℕ) (bytes : List ℕ) (a b : Result Progress RestartFault) → ReadsToEnd S c l bytes a → ReadsToEnd S c l bytes b → a ≡ b
   one_end_of c l bytes a b (reads_on {next = m} {line = line} {rest = rest} h e f r) s = one_end_of m (l + 1) rest a b r (peel c m l bytes line rest b h e f s)
   one_end_of c l bytes a b (reads_fault {line = line} {f = g} rest h e w) s = wrong c l bytes line rest g b h e w s
   one_end_of c l bytes a b (reads_no_line d n) (reads_on {line = line} {rest = rest} h e f r) = absurd (some_line_there line rest bytes h e n)

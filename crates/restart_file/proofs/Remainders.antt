@@ -7,14 +7,14 @@ use Rattle.lift_core.proofs.Composition.{each_push}
 use Rattle.outside.specs.Files.{Files, bytes_of, ReadsFrom}
 use Rattle.restart_file.specs.declared.windows.Window.{Window}
 use Rattle.restart_file.specs.Reading.{HasNoLine, IsLine}
-use Rattle.restart_file.specs.Inside.Windows.{GivesByte, GivesLine, IsLeft, IsPlain, IsTaken, Tells}
+use Rattle.restart_file.specs.Inside.Windows.{GivesByte, GivesLine, IsTextLeft, IsPlain, WereTaken, TellsText}
 
 -- ---- what a folder tells
-pub tells_same : (held now : Option Files) (name text : List ℕ) → now ≡ held → Tells held name text → Tells now name text
+pub tells_same : (held now : Option Files) (name text : List ℕ) → now ≡ held → TellsText held name text → TellsText now name text
 tells_same held now name text e t = record { files = t.files; told = e ∙ t.told; bytes = t.bytes }
 
 -- what was read of a file that is told
-pub tells_read : {E : Type 0} (held : Option Files) (name text : List ℕ) (at : ℕ) (r : Result ℕ E) (buf : List ℕ) → Tells held name text → IfSome held (λ files. IfOk r (λ n. ReadsFrom (bytes_of files name) at n buf)) → IfOk r (λ n. ReadsFrom text at n buf)
+pub tells_read : {E : Type 0} (held : Option Files) (name text : List ℕ) (at : ℕ) (r : Result ℕ E) (buf : List ℕ) → TellsText held name text → IfSome held (λ files. IfOk r (λ n. ReadsFrom (bytes_of files name) at n buf)) → IfOk r (λ n. ReadsFrom text at n buf)
 tells_read held name text at r buf t h =
     subst (λ bytes. IfOk r (λ n. ReadsFrom bytes at n buf)) t.bytes (subst (λ o. IfSome o (λ files. IfOk r (λ n. ReadsFrom (bytes_of files name) at n buf))) t.told h)
 
@@ -52,26 +52,26 @@ cases_zero (suc i) = inr (omega arith)
 
 -- ---- the window
 -- how many bytes are left
-pub left_length : (text rest : List ℕ) (w : Window) → w.from ≤ w.filled → w.filled ≤ length w.storage.items → IsLeft text w rest → length rest ≡ (w.filled - w.from) + w.left
+pub left_length : (text rest : List ℕ) (w : Window) → w.from ≤ w.filled → w.filled ≤ length w.storage.items → IsTextLeft text w rest → length rest ≡ (w.filled - w.from) + w.left
 left_length text rest w a b l =
     omega (arith, a, b, ap length l.bytes, length-append (drop w.from (take w.filled w.storage.items)) (drop w.at text), length-drop w.from (take w.filled w.storage.items), length-take-le w.filled w.storage.items b, length-drop w.at text, l.read)
 
 -- a window from which all was taken: the rest was not read
-all_taken : (text rest : List ℕ) (w : Window) → w.filled ≤ length w.storage.items → w.filled ≤ w.from → IsLeft text w rest → rest ≡ drop w.at text
+all_taken : (text rest : List ℕ) (w : Window) → w.filled ≤ length w.storage.items → w.filled ≤ w.from → IsTextLeft text w rest → rest ≡ drop w.at text
 all_taken text rest w b h l = l.bytes ∙ ap (λ front. front ++ drop w.at text) (drop_past w.from (take w.filled w.storage.items) (omega (arith, b, h, length-take-le w.filled w.storage.items b)))
 
 -- n bytes were read into a window from which all was taken
 module _ (text rest : List ℕ) (w v : Window) (n : ℕ) (inside : w.filled ≤ length w.storage.items) (empty : w.filled ≤ w.from)
     (same : length v.storage.items ≡ length w.storage.items) (read : ReadsFrom text w.at n v.storage.items)
     (from : v.from ≡ 0) (filled : v.filled ≡ n) (at : v.at ≡ min (w.at + n) (2 ^ 64 - 1)) (left : v.left ≡ w.left - n)
-    (l : IsLeft text w rest) where
+    (l : IsTextLeft text w rest) where
   fits : w.at + n ≤ length text
   fits = elim read.there [ inl h ↦ h | inr z ↦ omega (arith, z, l.read) ]
 
   at_is : v.at ≡ w.at + n
   at_is = omega (arith, at, fits, l.short)
 
-  pub read_left : IsLeft text v rest
+  pub read_left : IsTextLeft text v rest
   read_left = record {
     bytes =
         all_taken text rest w inside empty l ∙ take_and_drop n (drop w.at text) ∙ ap₂ (λ a b. a ++ b) (sym read.bytes) (drop_drop w.at n text)
@@ -84,7 +84,7 @@ module _ (text rest : List ℕ) (w v : Window) (n : ℕ) (inside : w.filled ≤ 
 
 -- nothing was read into a window from which all was taken
 module _ (text rest : List ℕ) (w : Window) (items : List ℕ) (n : ℕ) (inside : w.filled ≤ length w.storage.items) (empty : w.filled ≤ w.from)
-    (same : length items ≡ length w.storage.items) (read : ReadsFrom text w.at n items) (l : IsLeft text w rest) where
+    (same : length items ≡ length w.storage.items) (read : ReadsFrom text w.at n items) (l : IsTextLeft text w rest) where
   some_room : (length text ≤ w.at) ⊎ (length items ≡ 0) → (w.left ≡ 0) ⊎ (0 < w.left) → length text ≤ w.at
   some_room (inl h) e = h
   some_room (inr z) (inl e) = omega (arith, e, l.read)
@@ -96,8 +96,8 @@ module _ (text rest : List ℕ) (w : Window) (items : List ℕ) (n : ℕ) (insid
 -- ---- the next byte
 -- one byte was taken
 pub byte_taken : (text rest : List ℕ) (w v : Window) (byte : ℕ) → w.filled ≤ length w.storage.items → w.from < w.filled → byte ≡ get_or w.storage.items w.from 0
-    → v.storage.items ≡ w.storage.items → v.filled ≡ w.filled → v.from ≡ w.from + 1 → v.at ≡ w.at → v.left ≡ w.left → IsLeft text w rest
-    → (others : List ℕ) × (rest ≡ byte ∷ others) × IsLeft text v others
+    → v.storage.items ≡ w.storage.items → v.filled ≡ w.filled → v.from ≡ w.from + 1 → v.at ≡ w.at → v.left ≡ w.left → IsTextLeft text w rest
+    → (others : List ℕ) × (rest ≡ byte ∷ others) × IsTextLeft text v others
 byte_taken text rest w v byte inside some is storage filled from at left l =
     let cut : drop w.from (take w.filled w.storage.items) ≡ byte ∷ drop (suc w.from) (take w.filled w.storage.items) =
     drop-cons (take w.filled w.storage.items) w.from 0 (omega (arith, some, length-take-le w.filled w.storage.items inside)) ∙ ap (λ b. b ∷ drop (suc w.from) (take w.filled w.storage.items)) (get_taken w.storage.items w.filled w.from some ∙ sym is)
@@ -126,14 +126,14 @@ byte_taken text rest w v byte inside some is storage filled from at left l =
 pub no_byte : (text : List ℕ) (w : Window) (rest : List ℕ) (o : Option ℕ) → o ≡ None → GivesByte text w rest o → rest ≡ []
 no_byte text w rest o e h = subst (λ x. GivesByte text w rest x) e h
 
-pub some_byte : (text : List ℕ) (w : Window) (rest : List ℕ) (o : Option ℕ) (b : ℕ) → o ≡ Some b → GivesByte text w rest o → (others : List ℕ) × (rest ≡ b ∷ others) × IsLeft text w others
+pub some_byte : (text : List ℕ) (w : Window) (rest : List ℕ) (o : Option ℕ) (b : ℕ) → o ≡ Some b → GivesByte text w rest o → (others : List ℕ) × (rest ≡ b ∷ others) × IsTextLeft text w others
 some_byte text w rest o b e h = subst (λ x. GivesByte text w rest x) e h
 
-pub nothing_taken : (text rest : List ℕ) (w : Window) (taken : List ℕ) → taken ≡ [] → IsLeft text w rest → IsTaken text rest w taken 0
+pub nothing_taken : (text rest : List ℕ) (w : Window) (taken : List ℕ) → taken ≡ [] → IsTextLeft text w rest → WereTaken text rest w taken 0
 nothing_taken text rest w taken e l = record { left = l; taken_is = e; inside = omega arith }
 
-module _ (text rest : List ℕ) (w v : Window) (taken new : List ℕ) (i byte : ℕ) (t : IsTaken text rest w taken i)
-    (given : (others : List ℕ) × (drop i rest ≡ byte ∷ others) × IsLeft text v others) (pushed : new ≡ taken ++ byte ∷ []) where
+module _ (text rest : List ℕ) (w v : Window) (taken new : List ℕ) (i byte : ℕ) (t : WereTaken text rest w taken i)
+    (given : (others : List ℕ) × (drop i rest ≡ byte ∷ others) × IsTextLeft text v others) (pushed : new ≡ taken ++ byte ∷ []) where
   here : i < length rest
   here = omega (arith, ap length given.1, length-drop i rest)
 
@@ -153,15 +153,15 @@ module _ (text rest : List ℕ) (w v : Window) (taken new : List ℕ) (i byte : 
   taken_next : new ≡ take (i + 1) rest
   taken_next = pushed ∙ ap₂ (λ xs b. xs ++ b ∷ []) t.taken_is (sym first) ∙ sym (take_more rest i 0 here)
 
-  pub taken_more : IsTaken text rest v new (i + 1)
+  pub taken_more : WereTaken text rest v new (i + 1)
   taken_more = record {
-    left = subst (λ xs. IsLeft text v xs) (sym others_are) given.2;
+    left = subst (λ xs. IsTextLeft text v xs) (sym others_are) given.2;
     taken_is = taken_next;
     inside = omega (arith, here);
   }
 
   -- LF ends the line
-  pub taken_line : IsPlain taken → byte ≡ 10 → i < 4096 → IsLine new × ((others : List ℕ) × (rest ≡ new ++ others) × IsLeft text v others)
+  pub taken_line : IsPlain taken → byte ≡ 10 → i < 4096 → IsLine new × ((others : List ℕ) × (rest ≡ new ++ others) × IsTextLeft text v others)
   taken_line plain h small = (
     record {
       text = taken;
@@ -184,19 +184,19 @@ all_of_it : (i : ℕ) (rest : List ℕ) → drop i rest ≡ [] → take i rest �
 all_of_it i rest e = sym (append-nil (take i rest)) ∙ ap (λ xs. take i rest ++ xs) (sym e) ∙ sym (take_and_drop i rest)
 
 -- nothing more is left
-pub no_line_left : (text rest : List ℕ) (w : Window) (line : List ℕ) (i : ℕ) → IsTaken text rest w line i → IsPlain line → drop i rest ≡ [] → HasNoLine rest
+pub no_line_left : (text rest : List ℕ) (w : Window) (line : List ℕ) (i : ℕ) → WereTaken text rest w line i → IsPlain line → drop i rest ≡ [] → HasNoLine rest
 no_line_left text rest w line i t plain e = plain_front 4096 rest (subst (λ xs. IsPlain xs) (t.taken_is ∙ all_of_it i rest e) plain)
 
 -- the line is too long
-pub no_line_yet : (text rest : List ℕ) (w : Window) (line : List ℕ) (i : ℕ) → IsTaken text rest w line i → IsPlain line → 4096 ≤ i → HasNoLine rest
+pub no_line_yet : (text rest : List ℕ) (w : Window) (line : List ℕ) (i : ℕ) → WereTaken text rest w line i → IsPlain line → 4096 ≤ i → HasNoLine rest
 no_line_yet text rest w line i t plain h = subst (λ xs. IsPlain xs) (take_inside 4096 i rest h) (plain_front 4096 (take i rest) (subst (λ xs. IsPlain xs) t.taken_is plain))
 
 -- all that was left was taken
-pub taken_to_end : (text rest : List ℕ) (w : Window) (taken : List ℕ) (i len : ℕ) → IsTaken text rest w taken i → i ≤ len → drop i rest ≡ [] → taken ≡ take len rest
+pub taken_to_end : (text rest : List ℕ) (w : Window) (taken : List ℕ) (i len : ℕ) → WereTaken text rest w taken i → i ≤ len → drop i rest ≡ [] → taken ≡ take len rest
 taken_to_end text rest w taken i len t h e = t.taken_is ∙ all_of_it i rest e ∙ sym (take_all len rest (omega (arith, h, ap length e, length-drop i rest)))
 
 -- ---- lines
-pub some_line : (text : List ℕ) (w : Window) (rest line : List ℕ) (b : Bool) → b ≡ true → GivesLine text w rest line b → IsLine line × ((others : List ℕ) × (rest ≡ line ++ others) × IsLeft text w others)
+pub some_line : (text : List ℕ) (w : Window) (rest line : List ℕ) (b : Bool) → b ≡ true → GivesLine text w rest line b → IsLine line × ((others : List ℕ) × (rest ≡ line ++ others) × IsTextLeft text w others)
 some_line text w rest line b e h = subst (λ x. GivesLine text w rest line x) e h
 
 pub no_line : (text : List ℕ) (w : Window) (rest line : List ℕ) (b : Bool) → b ≡ false → GivesLine text w rest line b → HasNoLine rest

@@ -11,7 +11,7 @@ use Rattle.hex.specs.Hex.{encode_lower, encode_with}
 use Rattle.restart_file.specs.declared.windows.Window.{Window}
 use Rattle.restart_file.specs.Texts.{digest_line}
 use Rattle.restart_file.specs.Reading.{IsSealed}
-use Rattle.restart_file.specs.Inside.Windows.{IsHashed, IsLeft}
+use Rattle.restart_file.specs.Inside.Windows.{IsHashed, IsTextLeft}
 use Rattle.restart_file.proofs.Remainders.{cases_zero, drop_drop, take_and_drop, take_inside}
 
 -- ---- lists
@@ -36,7 +36,7 @@ module _ (text : List ℕ) (w v : Window) (done count : ℕ) (old new : Sha256) 
     (ordered : w.from ≤ w.filled) (inside : w.filled ≤ length w.storage.items) (count_most : count ≤ w.filled - w.from)
     (storage : v.storage.items ≡ w.storage.items) (filled : v.filled ≡ w.filled) (from : v.from ≡ w.from + count) (at : v.at ≡ w.at) (left : v.left ≡ w.left)
     (piece_is : piece ≡ take count (drop w.from w.storage.items)) (fed : (m : List ℕ) → Holds256 old m → Holds256 new (m ++ piece))
-    (l : IsLeft text w (drop done text)) (short : done ≤ length text) (held : Holds256 old (take done text)) where
+    (l : IsTextLeft text w (drop done text)) (short : done ≤ length text) (held : Holds256 old (take done text)) where
   ready : List ℕ
   ready = drop w.from (take w.filled w.storage.items)
 
@@ -88,7 +88,7 @@ all_hashed len left count n inside short none (inl h) = omega (arith, inside, sh
 all_hashed len left count n inside short none (inr e) = omega (arith, inside, short, none, e)
 
 -- nothing is hashed
-pub hashed_none : (text : List ℕ) (w : Window) (hasher : Sha256) → Holds256 hasher [] → IsLeft text w text → IsHashed text w hasher 0
+pub hashed_none : (text : List ℕ) (w : Window) (hasher : Sha256) → Holds256 hasher [] → IsTextLeft text w text → IsHashed text w hasher 0
 hashed_none text w hasher h l = record { left = l; inside = omega arith; hashed = h }
 
 -- ---- the last line

@@ -12,8 +12,8 @@ use Rattle.restart_file.specs.declared.lines.Version.TheVariants.{First, Second}
 use Rattle.restart_file.specs.declared.dues.Due.{Due}
 use Rattle.restart_file.specs.declared.dues.Due.TheVariants.{FirstLine, SystemLine, PlaceLine, UsedLine, ListedLine, ListedRow, ClassesLine, WaitingLine, WaitingRow, LastLine}
 use Rattle.restart_file.specs.Texts.{Progress, system_lines}
-use Rattle.restart_file.specs.Reading.{Cursor, Follows, IsPlace, at, listed_due, start, waiting_due, with_listed, with_place, with_used, with_waiting}
-use Rattle.restart_file.specs.Inside.Drafts.{IsDue, IsSound, is_placed, listed_left, waiting_left}
+use Rattle.restart_file.specs.Reading.{Cursor, Follows, IsStagePlace, at, listed_due, start, waiting_due, with_listed, with_place, with_used, with_waiting}
+use Rattle.restart_file.specs.Inside.Drafts.{IsDue, IsTrueSoFar, is_placed, listed_left, waiting_left}
 
 -- ---- rows that are to come
 listed_is_due : (S : ToolSystem) (v : Version) (n : ℕ) → IsDue S v (listed_due v n)
@@ -57,8 +57,8 @@ waiting_lists zero = refl
 waiting_lists (suc n) = refl
 
 -- ---- a line that changes nothing of what was read
-moved : (S : ToolSystem) (u v : Version) (due next_due : Due) (p : Progress) → IsSound S (at u due p) → IsDue S v next_due → (is_placed next_due ≡ true → IsPlace S p.number p.norm)
-    → length p.listed + listed_left next_due ≤ 2 ^ 21 → length p.waiting + waiting_left next_due ≤ 2 ^ 21 → IsSound S (at v next_due p)
+moved : (S : ToolSystem) (u v : Version) (due next_due : Due) (p : Progress) → IsTrueSoFar S (at u due p) → IsDue S v next_due → (is_placed next_due ≡ true → IsStagePlace S p.number p.norm)
+    → length p.listed + listed_left next_due ≤ 2 ^ 21 → length p.waiting + waiting_left next_due ≤ 2 ^ 21 → IsTrueSoFar S (at v next_due p)
 moved S u v due next_due p s is place listed waiting = record {
   due = is;
   place = place;
@@ -84,11 +84,11 @@ some_line S Second = omega arith
 not_le : (m n : ℕ) → nat_le m n ≡ false → n < m
 not_le m n e = grind (arith, e)
 
-system_step : (S : ToolSystem) (v : Version) (i : ℕ) (p : Progress) → IsSound S (at v (SystemLine i) p) → (b : Bool) → nat_le (length (system_lines v S)) (i + 1) ≡ b → IsSound S (at v (cond b PlaceLine (SystemLine (i + 1))) p)
+system_step : (S : ToolSystem) (v : Version) (i : ℕ) (p : Progress) → IsTrueSoFar S (at v (SystemLine i) p) → (b : Bool) → nat_le (length (system_lines v S)) (i + 1) ≡ b → IsTrueSoFar S (at v (cond b PlaceLine (SystemLine (i + 1))) p)
 system_step S v i p s true e = moved S v v (SystemLine i) PlaceLine p s tt (λ x. absurd cc) s.listed_room s.waiting_room
 system_step S v i p s false e = moved S v v (SystemLine i) (SystemLine (i + 1)) p s (not_le (length (system_lines v S)) (i + 1) e) (λ x. absurd cc) s.listed_room s.waiting_room
 
-place_step : (S : ToolSystem) (v : Version) (k d : ℕ) (p : Progress) → IsSound S (at v PlaceLine p) → IsPlace S k d → IsSound S (at v UsedLine (with_place k d p))
+place_step : (S : ToolSystem) (v : Version) (k d : ℕ) (p : Progress) → IsTrueSoFar S (at v PlaceLine p) → IsStagePlace S k d → IsTrueSoFar S (at v UsedLine (with_place k d p))
 place_step S v k d p s is = record {
   due = tt;
   place = λ _. is;
@@ -103,7 +103,7 @@ place_step S v k d p s is = record {
   waiting_norms = no_rows (λ z. d < stage_norm z) p.waiting s.waiting_room;
 }
 
-used_step : (S : ToolSystem) (v : Version) (u : ℕ) (p : Progress) → IsSound S (at v UsedLine p) → u ≤ 2 ^ 62 → IsSound S (at v ListedLine (with_used u p))
+used_step : (S : ToolSystem) (v : Version) (u : ℕ) (p : Progress) → IsTrueSoFar S (at v UsedLine p) → u ≤ 2 ^ 62 → IsTrueSoFar S (at v ListedLine (with_used u p))
 used_step S v u p s small = record {
   due = tt;
   place = s.place;
@@ -118,8 +118,8 @@ used_step S v u p s small = record {
   waiting_norms = s.waiting_norms;
 }
 
-listed_step : (S : ToolSystem) (v : Version) (left : ℕ) (z : List ℤ) (p : Progress) → IsSound S (at v (ListedRow left) p) → IsStageRow S.equations p.number z
-    → IsStrictlySortedBy norm_cmp (p.listed ++ z ∷ []) → stage_norm z ≤ p.norm → IsSound S (at v (listed_due v (left - 1)) (with_listed z p))
+listed_step : (S : ToolSystem) (v : Version) (left : ℕ) (z : List ℤ) (p : Progress) → IsTrueSoFar S (at v (ListedRow left) p) → IsStageRow S.equations p.number z
+    → IsStrictlySortedBy norm_cmp (p.listed ++ z ∷ []) → stage_norm z ≤ p.norm → IsTrueSoFar S (at v (listed_due v (left - 1)) (with_listed z p))
 listed_step S v left z p s row ascends closed = record {
   due = listed_is_due S v (left - 1);
   place = λ _. s.place refl;
@@ -134,8 +134,8 @@ listed_step S v left z p s row ascends closed = record {
   waiting_norms = s.waiting_norms;
 }
 
-waiting_step : (S : ToolSystem) (v : Version) (left : ℕ) (z : List ℤ) (p : Progress) → IsSound S (at v (WaitingRow left) p) → IsStageRow S.equations p.number z
-    → IsStrictlySortedBy norm_cmp (p.waiting ++ z ∷ []) → p.norm < stage_norm z → IsSound S (at v (waiting_due (left - 1)) (with_waiting z p))
+waiting_step : (S : ToolSystem) (v : Version) (left : ℕ) (z : List ℤ) (p : Progress) → IsTrueSoFar S (at v (WaitingRow left) p) → IsStageRow S.equations p.number z
+    → IsStrictlySortedBy norm_cmp (p.waiting ++ z ∷ []) → p.norm < stage_norm z → IsTrueSoFar S (at v (waiting_due (left - 1)) (with_waiting z p))
 waiting_step S v left z p s row ascends above = record {
   due = waiting_is_due S v (left - 1);
   place = λ _. s.place refl;
@@ -151,10 +151,10 @@ waiting_step S v left z p s row ascends above = record {
 }
 
 -- ---- any line
-sound_then : (S : ToolSystem) (c d : Cursor) → d ≡ c → IsSound S c → IsSound S d
-sound_then S c d e s = subst (λ x. IsSound S x) (sym e) s
+sound_then : (S : ToolSystem) (c d : Cursor) → d ≡ c → IsTrueSoFar S c → IsTrueSoFar S d
+sound_then S c d e s = subst (λ x. IsTrueSoFar S x) (sym e) s
 
-pub sound_step : (S : ToolSystem) (v : Version) (due : Due) (p : Progress) (line : List ℕ) (next : Cursor) → IsSound S (at v due p) → Follows S v due p line next → IsSound S next
+pub sound_step : (S : ToolSystem) (v : Version) (due : Due) (p : Progress) (line : List ℕ) (next : Cursor) → IsTrueSoFar S (at v due p) → Follows S v due p line next → IsTrueSoFar S next
 sound_step S v FirstLine p line next s h = sound_then S _ next h.3 (moved S v h.0 FirstLine (SystemLine 0) p s (some_line S h.0) (λ x. absurd cc) s.listed_room s.waiting_room)
 sound_step S v (SystemLine i) p line next s h = sound_then S _ next h.1 (system_step S v i p s (nat_le (length (system_lines v S)) (i + 1)) refl)
 sound_step S v PlaceLine p line next s h = sound_then S _ next h.4 (place_step S v h.0 h.1 p s h.2)
@@ -175,7 +175,7 @@ nothing_ascends : IsStrictlySortedBy norm_cmp []
 unfolding IsStrictlySortedBy
 nothing_ascends = tt
 
-pub sound_start : (S : ToolSystem) → IsSound S start
+pub sound_start : (S : ToolSystem) → IsTrueSoFar S start
 sound_start S = record {
   due = tt;
   place = λ e. absurd cc;

@@ -86,7 +86,7 @@ abbrev pub IsFor : ToolSystem → Version → Type 0
 IsFor S First = AllByRecursion (λ c. c ≡ None) (take S.n S.equations.caps)
 IsFor S Second = ⊤
 
-pub record IsPlace (S : ToolSystem) (k d : ℕ) : Type 0 where
+pub record IsStagePlace (S : ToolSystem) (k d : ℕ) : Type 0 where
   pub from : 1 ≤ k
   pub to : k ≤ length S.equations.rows
   pub positive : 1 ≤ d
@@ -129,7 +129,7 @@ Follows S v FirstLine p line next =
 Follows S v (SystemLine i) p line next =
     (line ≡ slice_index_or (system_lines v S) i []) × (next ≡ at v (system_due v S (i + 1)) p)
 Follows S v PlaceLine p line next =
-    (k : ℕ) × (d : ℕ) × IsPlace S k d × (line ≡ is_place_line k d)
+    (k : ℕ) × (d : ℕ) × IsStagePlace S k d × (line ≡ is_place_line k d)
     × (next ≡ at v UsedLine (with_place k d p))
 Follows S v UsedLine p line next =
     (u : ℕ) × IsCount (codes "used ") (2 ^ 62) line u × (next ≡ at v ListedLine (with_used u p))
@@ -167,7 +167,7 @@ HasFault S v FirstLine p line l f =
 HasFault S v (SystemLine i) p line l f =
     (f ≡ OtherSystem l) × (line ≢ slice_index_or (system_lines v S) i [])
 HasFault S v PlaceLine p line l f =
-    (f ≡ Text l) × ((k d : ℕ) → IsPlace S k d → line ≢ is_place_line k d)
+    (f ≡ Text l) × ((k d : ℕ) → IsStagePlace S k d → line ≢ is_place_line k d)
 HasFault S v UsedLine p line l f =
     (f ≡ Text l) × ((u : ℕ) → IsCount (codes "used ") (2 ^ 62) line u → ⊥)
 HasFault S v ListedLine p line l f =
@@ -184,43 +184,43 @@ HasFault S v LastLine p line l f = ⊥
 
 -- ---- the whole
 -- from line l on the bytes are read to the end of the text, or to its first fault
-pub data Reads (S : ToolSystem) : Cursor → ℕ → List ℕ → Result Progress RestartFault → Type 0 where
+pub data ReadsToEnd (S : ToolSystem) : Cursor → ℕ → List ℕ → Result Progress RestartFault → Type 0 where
   reads_on :
       {c next : Cursor} {l : ℕ} {bytes line rest : List ℕ} {out : Result Progress RestartFault}
       → IsLine line
       → bytes ≡ line ++ rest
       → Follows S c.version c.due c.so_far line next
-      → Reads S next (l + 1) rest out
-      → Reads S c l bytes out
+      → ReadsToEnd S next (l + 1) rest out
+      → ReadsToEnd S c l bytes out
   reads_fault :
       {c : Cursor} {l : ℕ} {bytes line : List ℕ} {f : RestartFault} (rest : List ℕ)
       → IsLine line
       → bytes ≡ line ++ rest
       → HasFault S c.version c.due c.so_far line l f
-      → Reads S c l bytes (Err f)
+      → ReadsToEnd S c l bytes (Err f)
   reads_no_line :
       {c : Cursor} {l : ℕ} {bytes : List ℕ}
       → c.due ≢ LastLine
       → HasNoLine bytes
-      → Reads S c l bytes (Err (Text l))
+      → ReadsToEnd S c l bytes (Err (Text l))
   -- the last line, that of the digest, has 72 bytes
   reads_more :
       {c : Cursor} {l : ℕ} {bytes : List ℕ}
       → c.due ≡ LastLine
       → length bytes ≢ 72
-      → Reads S c l bytes (Err (Text l))
+      → ReadsToEnd S c l bytes (Err (Text l))
   reads_too_few :
       {c : Cursor} {l : ℕ} {bytes : List ℕ}
       → c.due ≡ LastLine
       → length bytes ≡ 72
       → c.so_far.used < pairs_within c.so_far.listed c.so_far.norm
-      → Reads S c l bytes (Err Used)
+      → ReadsToEnd S c l bytes (Err Used)
   reads_end :
       {c : Cursor} {l : ℕ} {bytes : List ℕ}
       → c.due ≡ LastLine
       → length bytes ≡ 72
       → pairs_within c.so_far.listed c.so_far.norm ≤ c.so_far.used
-      → Reads S c l bytes (Ok c.so_far)
+      → ReadsToEnd S c l bytes (Ok c.so_far)
 
 -- what stands in a restart file of the system, or its first fault: the seal comes first, then the lines
 pub data IsReading (S : ToolSystem) : Option (List ℕ) → Result Progress RestartFault → Type 0 where
@@ -229,5 +229,5 @@ pub data IsReading (S : ToolSystem) : Option (List ℕ) → Result Progress Rest
   reading_lines :
       {bytes : List ℕ} {out : Result Progress RestartFault}
       → IsSealed bytes
-      → Reads S start 1 bytes out
+      → ReadsToEnd S start 1 bytes out
       → IsReading S (Some bytes) out

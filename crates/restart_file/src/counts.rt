@@ -5,7 +5,7 @@ ghost use Rattle.std.specs.List.{AllByRecursion};
 ghost use Rattle.int_vector.specs.Vectors.{largest};
 ghost use Rattle.lift_core.specs.Systems.{ToolSystem};
 ghost use Rattle.restart_file.specs.Texts.{counts_line};
-ghost use Rattle.restart_file.specs.Reading.{AreCounts, IsCount, IsPlace, is_place_line};
+ghost use Rattle.restart_file.specs.Reading.{AreCounts, IsCount, IsStagePlace, is_place_line};
 
 use crate::numbers::cells_in;
 use lift_core::System;
@@ -71,7 +71,7 @@ pub(crate) fn count_in(
 // The stage and the norm, where they are a place of the system.
 fn place_of(system: &System, k: u64, d: u64) -> Option<(u32, u64)>
     requires { d ≤ largest }
-    ensures { MatchOption result (IsPlace system.now k d → ⊥) (λ p. IsPlace system.now k d × ((p.0 ≡ k) × (p.1 ≡ d))) }
+    ensures { MatchOption result (IsStagePlace system.now k d → ⊥) (λ p. IsStagePlace system.now k d × ((p.0 ≡ k) × (p.1 ≡ d))) }
 {
     if k < 1 || d < 1 {
         return None;
@@ -88,8 +88,8 @@ pub(crate) fn place_in(
     system: &System,
     text: &mut Vec<u8>,
 ) -> Result<Option<(u32, u64)>, AllocError>
-    ensures { IfOk result (λ o. MatchOption o ((k d : ℕ) → IsPlace system.now k d → line.now ≢ is_place_line k d)
-        (λ p. IsPlace system.now p.0 p.1 × (line.now ≡ is_place_line p.0 p.1))) }
+    ensures { IfOk result (λ o. MatchOption o ((k d : ℕ) → IsStagePlace system.now k d → line.now ≢ is_place_line k d)
+        (λ p. IsStagePlace system.now p.0 p.1 × (line.now ≡ is_place_line p.0 p.1))) }
 {
     system.keeps();
     let mut counts = [0u64; 2];

@@ -11,7 +11,7 @@ ghost use Rattle.restart_file.specs.declared.ends.RestartEnd.TheVariants.{Bad};
 ghost use Rattle.restart_file.specs.declared.ends.RestartFault.TheVariants.{Text};
 ghost use Rattle.restart_file.specs.Texts.{class_counts, system_lines, version_line};
 ghost use Rattle.restart_file.specs.Reading.{IsFor, IsRow, listed_due, start, system_due, waiting_due};
-ghost use Rattle.restart_file.specs.Inside.Drafts.{HasWidths, IsSound, RowSteps, Steps, cursor_of, progress_in};
+ghost use Rattle.restart_file.specs.Inside.Drafts.{HasWidths, IsTrueSoFar, RowSteps, TakesLine, cursor_of, progress_in};
 
 use crate::classes::add_class;
 use crate::counts::{classes_in, count_in, place_in};
@@ -152,7 +152,7 @@ fn classes_of(rows: &Pool) -> [u64; 3]
 
 // Takes the line of the version.
 fn take_version(draft: &mut Draft, system: &System, l: u64, line: &[u8]) -> Result<(), RestartEnd>
-    ensures steps { Steps system.now draft.old.version FirstLine (progress_in draft.old) line.now l (cursor_of draft.new) result }
+    ensures steps { TakesLine system.now draft.old.version FirstLine (progress_in draft.old) line.now l (cursor_of draft.new) result }
     ensures widths { HasWidths system.now draft.old → HasWidths system.now draft.new }
 {
     let Some(version) = version_in(line) else {
@@ -176,7 +176,7 @@ fn take_system(
     text: &mut Vec<u8>,
 ) -> Result<(), RestartEnd>
     requires { i < length (system_lines draft.old.version system.now) }
-    ensures steps { Steps system.now draft.old.version (SystemLine i) (progress_in draft.old) line.now l (cursor_of draft.new) result }
+    ensures steps { TakesLine system.now draft.old.version (SystemLine i) (progress_in draft.old) line.now l (cursor_of draft.new) result }
     ensures widths { HasWidths system.now draft.old → HasWidths system.now draft.new }
 {
     text.clear();
@@ -196,7 +196,7 @@ fn take_place(
     line: &[u8],
     text: &mut Vec<u8>,
 ) -> Result<(), RestartEnd>
-    ensures steps { Steps system.now draft.old.version PlaceLine (progress_in draft.old) line.now l (cursor_of draft.new) result }
+    ensures steps { TakesLine system.now draft.old.version PlaceLine (progress_in draft.old) line.now l (cursor_of draft.new) result }
     ensures widths { HasWidths system.now draft.old → HasWidths system.now draft.new }
 {
     let Some((number, norm)) = place_in(line, system, text)? else {
@@ -216,7 +216,7 @@ fn take_used(
     line: &[u8],
     text: &mut Vec<u8>,
 ) -> Result<(), RestartEnd>
-    ensures steps { Steps system.now draft.old.version UsedLine (progress_in draft.old) line.now l (cursor_of draft.new) result }
+    ensures steps { TakesLine system.now draft.old.version UsedLine (progress_in draft.old) line.now l (cursor_of draft.new) result }
     ensures widths { HasWidths system.now draft.old → HasWidths system.now draft.new }
 {
     let _ = system.count();
@@ -236,7 +236,7 @@ fn take_listed_count(
     line: &[u8],
     text: &mut Vec<u8>,
 ) -> Result<(), RestartEnd>
-    ensures steps { Steps system.now draft.old.version ListedLine (progress_in draft.old) line.now l (cursor_of draft.new) result }
+    ensures steps { TakesLine system.now draft.old.version ListedLine (progress_in draft.old) line.now l (cursor_of draft.new) result }
     ensures widths { HasWidths system.now draft.old → HasWidths system.now draft.new }
 {
     let _ = system.count();
@@ -256,7 +256,7 @@ fn take_classes(
     text: &mut Vec<u8>,
 ) -> Result<(), RestartEnd>
     requires widths { HasWidths system.now draft.old }
-    ensures steps { Steps system.now draft.old.version ClassesLine (progress_in draft.old) line.now l (cursor_of draft.new) result }
+    ensures steps { TakesLine system.now draft.old.version ClassesLine (progress_in draft.old) line.now l (cursor_of draft.new) result }
     ensures widths { HasWidths system.now draft.new }
 {
     let _ = system.count();
@@ -278,7 +278,7 @@ fn take_waiting_count(
     line: &[u8],
     text: &mut Vec<u8>,
 ) -> Result<(), RestartEnd>
-    ensures steps { Steps system.now draft.old.version WaitingLine (progress_in draft.old) line.now l (cursor_of draft.new) result }
+    ensures steps { TakesLine system.now draft.old.version WaitingLine (progress_in draft.old) line.now l (cursor_of draft.new) result }
     ensures widths { HasWidths system.now draft.old → HasWidths system.now draft.new }
 {
     let _ = system.count();
@@ -322,9 +322,9 @@ fn take_listed(
     text: &mut Vec<u8>,
 ) -> Result<(), RestartEnd>
     requires widths { HasWidths system.now draft.old }
-    requires sound { IsSound system.now (cursor_of draft.old) }
+    requires sound { IsTrueSoFar system.now (cursor_of draft.old) }
     requires due { draft.old.due ≡ ListedRow left }
-    ensures steps { Steps system.now draft.old.version (ListedRow left) (progress_in draft.old) line.now l (cursor_of draft.new) result }
+    ensures steps { TakesLine system.now draft.old.version (ListedRow left) (progress_in draft.old) line.now l (cursor_of draft.new) result }
     ensures widths { HasWidths system.now draft.new }
 {
     let mut room = [0i64; 130];
@@ -348,9 +348,9 @@ fn take_waiting(
     text: &mut Vec<u8>,
 ) -> Result<(), RestartEnd>
     requires widths { HasWidths system.now draft.old }
-    requires sound { IsSound system.now (cursor_of draft.old) }
+    requires sound { IsTrueSoFar system.now (cursor_of draft.old) }
     requires due { draft.old.due ≡ WaitingRow left }
-    ensures steps { Steps system.now draft.old.version (WaitingRow left) (progress_in draft.old) line.now l (cursor_of draft.new) result }
+    ensures steps { TakesLine system.now draft.old.version (WaitingRow left) (progress_in draft.old) line.now l (cursor_of draft.new) result }
     ensures widths { HasWidths system.now draft.new }
 {
     let mut room = [0i64; 130];
@@ -373,9 +373,9 @@ pub(crate) fn take_line(
     text: &mut Vec<u8>,
 ) -> Result<(), RestartEnd>
     requires widths { HasWidths system.now draft.old }
-    requires sound { IsSound system.now (cursor_of draft.old) }
+    requires sound { IsTrueSoFar system.now (cursor_of draft.old) }
     requires due { draft.old.due ≢ LastLine }
-    ensures steps { Steps system.now draft.old.version draft.old.due (progress_in draft.old) line.now l (cursor_of draft.new) result }
+    ensures steps { TakesLine system.now draft.old.version draft.old.due (progress_in draft.old) line.now l (cursor_of draft.new) result }
     ensures widths { HasWidths system.now draft.new }
 {
     match draft.due {

@@ -3,7 +3,7 @@
 ghost use Rattle.std.specs.Prelude.{◌≡◌, ◌≤◌, ◌<◌, ◌+◌, ◌-◌, ◌∷◌, [], ℕ, List, length, min, take, drop, IfOk, OnOk};
 ghost use Rattle.outside.specs.Causes.{HasCause};
 ghost use Rattle.outside.specs.Files.{ReadsFrom};
-ghost use Rattle.restart_file.specs.Inside.Windows.{GivesByte, GivesLine, IsLeft, Tells};
+ghost use Rattle.restart_file.specs.Inside.Windows.{GivesByte, GivesLine, IsTextLeft, TellsText};
 
 use crate::windows::Window;
 use outside::{Folder, PutEnd};
@@ -17,7 +17,7 @@ const LINE: u32 = 4_096;
 
 // The start of a file of so many bytes.
 pub(crate) fn window_of(alloc: Global, size: u64) -> Result<Window, AllocError>
-    ensures { IfOk result (λ w. (text : List ℕ) → size ≡ length text → IsLeft text w text) }
+    ensures { IfOk result (λ w. (text : List ℕ) → size ≡ length text → IsTextLeft text w text) }
 {
     let storage = vec![in alloc; 0u8; size.min(PIECE) as usize]?;
     Ok(Window {
@@ -31,7 +31,7 @@ pub(crate) fn window_of(alloc: Global, size: u64) -> Result<Window, AllocError>
 
 // How many bytes are left.
 pub(crate) fn remaining(window: &Window) -> u64
-    ensures { (text rest : List ℕ) → IsLeft text window.now rest → result ≡ length rest }
+    ensures { (text rest : List ℕ) → IsTextLeft text window.now rest → result ≡ length rest }
 {
     ((window.filled - window.from) as u64).saturating_add(window.left)
 }
@@ -46,7 +46,7 @@ fn read_into<F: Folder>(
     ensures same { F.held folder.new ≡ F.held folder.old }
     ensures length { length storage.new.items ≡ length storage.old.items }
     ensures within { IfOk result (λ n. n ≤ length storage.new.items) }
-    ensures bytes { (text : List ℕ) → Tells (F.held folder.old) name.now text → IfOk result (λ n. ReadsFrom text at n storage.new.items) }
+    ensures bytes { (text : List ℕ) → TellsText (F.held folder.old) name.now text → IfOk result (λ n. ReadsFrom text at n storage.new.items) }
     ensures cause { HasCause (F.faults folder.old) (F.faults folder.new) result }
 {
     folder.read(name, at, storage.as_mut_slice())
@@ -59,8 +59,8 @@ pub(crate) fn refill<F: Folder>(
     name: &str,
 ) -> Result<(), PutEnd>
     ensures same { F.held folder.new ≡ F.held folder.old }
-    ensures left { (text rest : List ℕ) → Tells (F.held folder.old) name.now text → IsLeft text window.old rest →
-        OnOk result (IsLeft text window.new rest × (window.new.from ≡ window.new.filled → rest ≡ [])) }
+    ensures left { (text rest : List ℕ) → TellsText (F.held folder.old) name.now text → IsTextLeft text window.old rest →
+        OnOk result (IsTextLeft text window.new rest × (window.new.from ≡ window.new.filled → rest ≡ [])) }
     ensures cause { HasCause (F.faults folder.old) (F.faults folder.new) result }
 {
     if window.from < window.filled {
@@ -81,7 +81,7 @@ fn next_byte<F: Folder>(
     name: &str,
 ) -> Result<Option<u8>, PutEnd>
     ensures same { F.held folder.new ≡ F.held folder.old }
-    ensures byte { (text rest : List ℕ) → Tells (F.held folder.old) name.now text → IsLeft text window.old rest →
+    ensures byte { (text rest : List ℕ) → TellsText (F.held folder.old) name.now text → IsTextLeft text window.old rest →
         IfOk result (λ o. GivesByte text window.new rest o) }
     ensures cause { HasCause (F.faults folder.old) (F.faults folder.new) result }
 {
@@ -102,7 +102,7 @@ pub(crate) fn next_line<F: Folder>(
     line: &mut Vec<u8>,
 ) -> Result<bool, PutEnd>
     ensures same { F.held folder.new ≡ F.held folder.old }
-    ensures line { (text rest : List ℕ) → Tells (F.held folder.old) name.now text → IsLeft text window.old rest →
+    ensures line { (text rest : List ℕ) → TellsText (F.held folder.old) name.now text → IsTextLeft text window.old rest →
         IfOk result (λ is. GivesLine text window.new rest line.new.items is) }
     ensures cause { HasCause (F.faults folder.old) (F.faults folder.new) result }
 {
@@ -128,7 +128,7 @@ pub(crate) fn next_bytes<F: Folder>(
     bytes: &mut Vec<u8>,
 ) -> Result<(), PutEnd>
     ensures same { F.held folder.new ≡ F.held folder.old }
-    ensures bytes { (text rest : List ℕ) → Tells (F.held folder.old) name.now text → IsLeft text window.old rest →
+    ensures bytes { (text rest : List ℕ) → TellsText (F.held folder.old) name.now text → IsTextLeft text window.old rest →
         OnOk result (bytes.new.items ≡ take len rest) }
     ensures cause { HasCause (F.faults folder.old) (F.faults folder.new) result }
 {

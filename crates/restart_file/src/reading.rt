@@ -6,9 +6,9 @@ ghost use Rattle.restart_file.specs.declared.dues.Due.TheVariants.{LastLine};
 ghost use Rattle.restart_file.specs.declared.ends.RestartEnd.TheVariants.{Failed};
 ghost use Rattle.restart_file.specs.Reading.{start};
 ghost use Rattle.restart_file.specs.Stored.{Restores, HasRestartCause};
-ghost use Rattle.restart_file.specs.Inside.Drafts.{HasWidths, IsSound, ReadsTo, cursor_of};
-ghost use Rattle.restart_file.specs.Inside.Ways.{Builds, IsWhole, ReadsLine};
-ghost use Rattle.restart_file.specs.Inside.Windows.{IsLeft, Tells};
+ghost use Rattle.restart_file.specs.Inside.Drafts.{HasWidths, IsTrueSoFar, ReadsTo, cursor_of};
+ghost use Rattle.restart_file.specs.Inside.Ways.{Builds, IsAllRead, ReadsLine};
+ghost use Rattle.restart_file.specs.Inside.Windows.{IsTextLeft, TellsText};
 
 use crate::drafts::{Draft, bad_text, empty_draft, take_line};
 use crate::dues::Due;
@@ -42,13 +42,13 @@ fn read_line<F: Folder>(
     lines: &mut Lines,
 ) -> Result<(), RestartEnd>
     requires widths { HasWidths system.now draft.old }
-    requires sound { IsSound system.now (cursor_of draft.old) }
+    requires sound { IsTrueSoFar system.now (cursor_of draft.old) }
     requires due { draft.old.due ≢ LastLine }
     ensures same { F.held folder.new ≡ F.held folder.old }
-    ensures line { (text rest : List ℕ) → Tells (F.held folder.old) name.now text → IsLeft text window.old rest →
+    ensures line { (text rest : List ℕ) → TellsText (F.held folder.old) name.now text → IsTextLeft text window.old rest →
         ReadsLine system.now text rest window.new (cursor_of draft.old) (cursor_of draft.new) l result }
     ensures widths { HasWidths system.now draft.new }
-    ensures sound { OnOk result (IsSound system.now (cursor_of draft.new)) }
+    ensures sound { OnOk result (IsTrueSoFar system.now (cursor_of draft.new)) }
     ensures cause { HasRestartCause (F.faults folder.old) (F.faults folder.new) result }
 {
     if !next_line(window, folder, name, &mut lines.line)? {
@@ -59,11 +59,11 @@ fn read_line<F: Folder>(
 
 // The draft, where the last line alone is left, in line l, and the used pairs are enough.
 fn ended(draft: Draft, system: &System, l: u64, left: u64) -> Result<Draft, RestartEnd>
-    requires sound { IsSound system.now (cursor_of draft) }
+    requires sound { IsTrueSoFar system.now (cursor_of draft) }
     requires widths { HasWidths system.now draft }
     ensures to { (bytes : List ℕ) → left ≡ length bytes → (draft.due ≢ LastLine → bytes ≡ []) →
         ReadsTo system.now (cursor_of draft) l bytes result }
-    ensures whole { IfOk result (λ d. IsWhole system.now d) }
+    ensures whole { IfOk result (λ d. IsAllRead system.now d) }
     ensures never { result ≢ Err Failed }
 {
     let _ = system.count();
@@ -89,9 +89,9 @@ fn read_lines<F: Folder>(
 ) -> Result<Draft, RestartEnd>
     requires { size < 2 ^ 61 }
     ensures same { F.held folder.new ≡ F.held folder.old }
-    ensures to { (text : List ℕ) → Tells (F.held folder.old) name.now text → size ≡ length text →
+    ensures to { (text : List ℕ) → TellsText (F.held folder.old) name.now text → size ≡ length text →
         ReadsTo system.now start 1 text result }
-    ensures whole { IfOk result (λ d. IsWhole system.now d) }
+    ensures whole { IfOk result (λ d. IsAllRead system.now d) }
     ensures cause { HasRestartCause (F.faults folder.old) (F.faults folder.new) result }
 {
     let mut window = window_of(alloc, size)?;
@@ -113,7 +113,7 @@ fn read_lines<F: Folder>(
 
 // The stage of what was read.
 fn stage_of(alloc: Global, system: &System, draft: Draft) -> Result<Stage, RestartEnd>
-    requires { IsWhole system.now draft }
+    requires { IsAllRead system.now draft }
     ensures { Builds system.now draft result }
 {
     let system = system.copy(alloc)?;

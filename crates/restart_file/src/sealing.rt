@@ -5,7 +5,7 @@ ghost use Rattle.sha2.specs.Hashers.{Holds256};
 ghost use Rattle.sha2.specs.Sha256.{sha256};
 ghost use Rattle.outside.specs.Causes.{HasCause};
 ghost use Rattle.restart_file.specs.Reading.{IsSealed};
-ghost use Rattle.restart_file.specs.Inside.Windows.{IsHashed, IsLeft, Tells};
+ghost use Rattle.restart_file.specs.Inside.Windows.{IsHashed, IsTextLeft, TellsText};
 
 use crate::lines::push_digest;
 use crate::pulling::{next_bytes, refill, window_of};
@@ -38,7 +38,7 @@ fn hash_piece<F: Folder>(
 ) -> Result<u64, PutEnd>
     ensures same { F.held folder.new ≡ F.held folder.old }
     ensures within { IfOk result (λ n. n ≤ most) }
-    ensures hashed { (text : List ℕ) (done : ℕ) → Tells (F.held folder.old) name.now text → IsHashed text window.old hasher.old done →
+    ensures hashed { (text : List ℕ) (done : ℕ) → TellsText (F.held folder.old) name.now text → IsHashed text window.old hasher.old done →
         IfOk result (λ n. IsHashed text window.new hasher.new (done + n) × (n ≡ 0 → length text ≤ done ⊎ most ≡ 0)) }
     ensures cause { HasCause (F.faults folder.old) (F.faults folder.new) result }
 {
@@ -57,8 +57,8 @@ fn digest_of<F: Folder>(
     len: u64,
 ) -> Result<[u8; 32], PutEnd>
     ensures same { F.held folder.new ≡ F.held folder.old }
-    ensures digest { (text : List ℕ) → Tells (F.held folder.old) name.now text → IsLeft text window.old text → len ≤ length text →
-        IfOk result (λ digest. (digest ≡ sha256 (take len text)) × IsLeft text window.new (drop len text)) }
+    ensures digest { (text : List ℕ) → TellsText (F.held folder.old) name.now text → IsTextLeft text window.old text → len ≤ length text →
+        IfOk result (λ digest. (digest ≡ sha256 (take len text)) × IsTextLeft text window.new (drop len text)) }
     ensures cause { HasCause (F.faults folder.old) (F.faults folder.new) result }
 {
     let mut hasher = Sha256::new();
@@ -88,7 +88,7 @@ pub(crate) fn is_sealed<F: Folder>(
     size: u64,
 ) -> Result<bool, PutEnd>
     ensures same { F.held folder.new ≡ F.held folder.old }
-    ensures sealed { (text : List ℕ) → Tells (F.held folder.old) name.now text → size ≡ length text →
+    ensures sealed { (text : List ℕ) → TellsText (F.held folder.old) name.now text → size ≡ length text →
         IfOk result (λ is. IsTrue is ↔ IsSealed text) }
     ensures short { IfOk result (λ is. IsTrue is → size < 2 ^ 61) }
     ensures cause { HasCause (F.faults folder.old) (F.faults folder.new) result }

@@ -9,7 +9,7 @@ use Rattle.restart_file.specs.declared.dues.Due.{Due}
 use Rattle.restart_file.specs.declared.dues.Due.TheVariants.{FirstLine}
 use Rattle.restart_file.specs.declared.ends.RestartFault.{RestartFault}
 use Rattle.restart_file.specs.Texts.{Progress, digest_line, place_lines, restart_lines, restart_text, sealed, system_lines, version_line}
-use Rattle.restart_file.specs.Reading.{Cursor, IsFor, IsReading, IsSealed, Reads, nothing_read, reads_end, reads_fault, reads_more, reads_no_line, reads_on, reads_too_few, start}
+use Rattle.restart_file.specs.Reading.{Cursor, IsFor, IsReading, IsSealed, ReadsToEnd, nothing_read, reads_end, reads_fault, reads_more, reads_no_line, reads_on, reads_too_few, start}
 use Rattle.restart_file.proofs.Seals.{digest_line_length}
 use Rattle.restart_laws.proofs.LinesLeft.{IsTail, line_more}
 use Rattle.restart_laws.proofs.PrefixReadings.{accepted_lines, accepted_seal, no_error}
@@ -28,7 +28,7 @@ progress_or p (Err f) = p
 
 module _ (S : ToolSystem) (p : Progress) where
   ending : (c : Cursor) (l : ℕ) (bytes : List ℕ) (out : Result Progress RestartFault)
-      → Reads S c l bytes out → out ≡ Ok p → IsEnding S c bytes p
+      → ReadsToEnd S c l bytes out → out ≡ Ok p → IsEnding S c bytes p
   unfolding progress_or
   ending c l bytes out (reads_on {next = m} {line = line} {rest = rest} h e f r) o =
       let t : IsEnding S m rest p = ending m (l + 1) rest out r o in

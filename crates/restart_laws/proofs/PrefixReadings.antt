@@ -7,7 +7,7 @@ use Rattle.lift_core.specs.ToolSystems.{IsToolSystem}
 use Rattle.restart_file.specs.declared.ends.RestartFault.{RestartFault}
 use Rattle.restart_file.specs.declared.ends.RestartFault.TheVariants.{Text}
 use Rattle.restart_file.specs.Texts.{Progress}
-use Rattle.restart_file.specs.Reading.{Cursor, IsReading, IsSealed, Reads, reading_lines, reading_unsealed, reads_end, reads_fault, reads_more, reads_no_line, reads_on, reads_too_few, start}
+use Rattle.restart_file.specs.Reading.{Cursor, IsReading, IsSealed, ReadsToEnd, reading_lines, reading_unsealed, reads_end, reads_fault, reads_more, reads_no_line, reads_on, reads_too_few, start}
 use Rattle.restart_file.proofs.OneReading.{one_reading}
 
 is_longer : (xs ys : List ℕ) → ys ≢ [] → length (xs ++ ys) ≢ length xs
@@ -20,9 +20,9 @@ no_error e = absurd cc
 module _ (S : ToolSystem) (p : Progress) (more : List ℕ) (some : more ≢ []) where
   -- bytes behind the last line are its fault
   runs_over : (c : Cursor) (l : ℕ) (bytes : List ℕ) (out : Result Progress RestartFault)
-      → Reads S c l bytes out → out ≡ Ok p → (n : ℕ) × Reads S c l (bytes ++ more) (Err (Text n))
+      → ReadsToEnd S c l bytes out → out ≡ Ok p → (n : ℕ) × ReadsToEnd S c l (bytes ++ more) (Err (Text n))
   runs_over c l bytes out (reads_on {next = m} {line = line} {rest = rest} h e f r) o =
-      let t : (n : ℕ) × Reads S m (l + 1) (rest ++ more) (Err (Text n)) = runs_over m (l + 1) rest out r o in
+      let t : (n : ℕ) × ReadsToEnd S m (l + 1) (rest ++ more) (Err (Text n)) = runs_over m (l + 1) rest out r o in
       (t.0, reads_on h (ap (λ b. b ++ more) e ∙ append_assoc line rest more) f t.1)
   runs_over c l bytes out (reads_fault rest h e w) o = absurd (no_error o)
   runs_over c l bytes out (reads_no_line d n) o = absurd (no_error o)
@@ -37,16 +37,16 @@ accepted_seal S bytes out p (reading_unsealed u) o = absurd (no_error o)
 accepted_seal S bytes out p (reading_lines s r) o = s
 
 pub accepted_lines : (S : ToolSystem) (bytes : List ℕ) (out : Result Progress RestartFault) (p : Progress)
-    → IsReading S (Some bytes) out → out ≡ Ok p → Reads S start 1 bytes out
+    → IsReading S (Some bytes) out → out ≡ Ok p → ReadsToEnd S start 1 bytes out
 accepted_lines S bytes out p (reading_unsealed u) o = absurd (no_error o)
 accepted_lines S bytes out p (reading_lines s r) o = r
 
 pub no_proper_prefix : (S : ToolSystem) (bytes front rest : List ℕ) (p q : Progress) → IsToolSystem S
     → IsReading S (Some bytes) (Ok p) → bytes ≡ front ++ rest → rest ≢ [] → IsReading S (Some front) (Ok q) → ⊥
 no_proper_prefix S bytes front rest p q fits whole e some cut =
-    let lines : Reads S start 1 front (Ok q) = accepted_lines S front (Ok q) q cut refl in
-    let over : (n : ℕ) × Reads S start 1 (front ++ rest) (Err (Text n)) = runs_over S q rest some start 1 front (Ok q) lines refl in
+    let lines : ReadsToEnd S start 1 front (Ok q) = accepted_lines S front (Ok q) q cut refl in
+    let over : (n : ℕ) × ReadsToEnd S start 1 (front ++ rest) (Err (Text n)) = runs_over S q rest some start 1 front (Ok q) lines refl in
     let fault : IsReading S (Some bytes) (Err (Text over.0)) =
-    reading_lines (accepted_seal S bytes (Ok p) p whole refl) (subst (λ (b : List ℕ). Reads S start 1 b (Err (Text over.0))) (sym e) over.1)
+    reading_lines (accepted_seal S bytes (Ok p) p whole refl) (subst (λ (b : List ℕ). ReadsToEnd S start 1 b (Err (Text over.0))) (sym e) over.1)
     in
     no_error (one_reading S (Some bytes) (Err (Text over.0)) (Ok p) fits fault whole)

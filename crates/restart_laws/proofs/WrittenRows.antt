@@ -12,12 +12,12 @@ use Rattle.stage_store.specs.Stage.{IsStageRow}
 use Rattle.restart_file.specs.declared.lines.Version.TheVariants.{Second}
 use Rattle.restart_file.specs.declared.dues.Due.TheVariants.{ClassesLine, ListedRow, WaitingRow, LastLine}
 use Rattle.restart_file.specs.Texts.{Progress}
-use Rattle.restart_file.specs.Reading.{Cursor, Follows, IsLine, IsRow, Reads, at, listed_due, reads_on, waiting_due}
+use Rattle.restart_file.specs.Reading.{Cursor, Follows, IsLine, IsRow, ReadsToEnd, at, listed_due, reads_on, waiting_due}
 use Rattle.restart_laws.proofs.WrittenLines.{cells_line}
 
 -- from any line on, the bytes are read to this progress
 abbrev pub ReadsAll : ToolSystem → Cursor → List ℕ → Progress → Type 0
-ReadsAll S c bytes p = (l : ℕ) → Reads S c l bytes (Ok p)
+ReadsAll S c bytes p = (l : ℕ) → ReadsToEnd S c l bytes (Ok p)
 
 pub step_back : (S : ToolSystem) (c next : Cursor) (line : List ℕ) (lines : List (List ℕ))
     (tail : List ℕ) (p : Progress)

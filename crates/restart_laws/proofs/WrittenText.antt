@@ -23,7 +23,7 @@ use Rattle.restart_file.specs.declared.ends.RestartEnd.{RestartEnd}
 use Rattle.restart_file.specs.declared.ends.RestartEnd.TheVariants.{Bad, Failed, Memory}
 use Rattle.restart_file.specs.declared.ends.RestartFault.{RestartFault}
 use Rattle.restart_file.specs.Texts.{Progress, class_counts, class_lines, counts_line, digest_line, has_zero_last, listed_lines, place_lines, progress_of, restart_lines, row_line, system_lines, text_of_stage, version_line, waiting_lines}
-use Rattle.restart_file.specs.Reading.{Cursor, IsLine, IsPlace, IsReading, at, listed_due, nothing_read, reading_lines, reads_end, start, waiting_due}
+use Rattle.restart_file.specs.Reading.{Cursor, IsLine, IsStagePlace, IsReading, at, listed_due, nothing_read, reading_lines, reads_end, start, waiting_due}
 use Rattle.restart_file.specs.Stored.{Restores}
 use Rattle.restart_file.proofs.OneReading.{one_reading}
 use Rattle.restart_file.proofs.Seals.{digest_line_length}
@@ -256,7 +256,7 @@ module _ (s : StageValue) (h : IsReadable s) where
       (used_of s, record { within = h.used; written = refl }, refl)
       from_listed
 
-  is_place : IsPlace s.system s.number s.norm
+  is_place : IsStagePlace s.system s.number s.norm
   is_place = record {
     from = omega (arith, h.stage.number_from);
     to = h.stage.number_to;

@@ -1,5 +1,6 @@
 -- A pool as contracts see it, and how its rows lie among its cells.
-use Rattle.std.specs.Prelude.{◌≡◌, ◌+◌, ◌*◌, ◌<◌, ◌≤◌, ℕ, ℤ, zero, suc, nat_abs, List, [], ◌∷◌, All, length, take, drop}
+use Rattle.std.specs.Prelude.{◌≡◌, ◌+◌, ◌*◌, ◌<◌, ◌≤◌, ℕ, ℤ, zero, suc, List, [], ◌∷◌, All, length, take, drop}
+use Rattle.int_vector.specs.Range.{InRange}
 
 -- the width of each row, the rows, and for how many more there is room
 pub record PoolValue : Type 0 where
@@ -11,10 +12,6 @@ pub record PoolValue : Type 0 where
 abbrev pub rows_of : ℕ → ℕ → List ℤ → List (List ℤ)
 rows_of zero w cells = []
 rows_of (suc n) w cells = take w cells ∷ rows_of n w (drop w cells)
-
--- from -(2^63-1) to 2^63-1, so that its negative is an entry too
-abbrev pub InRange : ℤ → Type 0
-InRange x = nat_abs x ≤ 9223372036854775807
 
 -- the fields of a pool: cells of whole rows, in range, with room for the spare rows
 pub record IsPool (width count spare capacity : ℕ) (cells : List ℤ) : Type 0 where

@@ -5,7 +5,7 @@
 #![tactic(auto)]
 
 ghost use Rattle.std.specs.Prelude.{◌≡◌, ◌+◌, ◌-◌, ◌<◌, ◌≤◌, ◌^◌, ◌++◌, ◌∷◌, [], All, length, take, slice_index_or, IsOk, OnOk, OnErr, vec_len, vec_capacity};
-ghost use Rattle.row_pool.specs.Rows.{InRange};
+ghost use Rattle.int_vector.specs.Range.{InRange};
 
 use std::alloc::{AllocError, Global};
 use std::marker::Model;

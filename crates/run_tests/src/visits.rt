@@ -1,7 +1,7 @@
 //! How few rows a search in a tree of solutions compares.
 
 ghost use Rattle.std.specs.Prelude.{◌≡◌, ◌+◌, ◌≤◌, length, All, IfOk};
-ghost use Rattle.row_pool.specs.Rows.{InRange};
+ghost use Rattle.int_vector.specs.Range.{InRange};
 ghost use Rattle.reduce_tree.specs.Tree.{Fits};
 
 use int_vector::Visits;

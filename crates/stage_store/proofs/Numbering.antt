@@ -6,7 +6,7 @@ use Rattle.std.specs.List.Sorted.{IsStrictlySortedBy}
 use Rattle.std.proofs.lemmas.Bool.{eqb-true, eq-eqb}
 use Rattle.std.proofs.lemmas.List.Elements.{Contains-append_left, Contains-append_right, Contains-append_cases}
 use Rattle.lift_core.specs.Stages.{stage_norm, has_positive_last, has_negative_last, norm_cmp, last, IsPair}
-use Rattle.stage_store.specs.Laws.{AreNumbered}
+use Rattle.lift_core.specs.PureMachine.{AreNumbered}
 use Rattle.lift_core.proofs.Lists.{contains_cases, contains_head, contains_tail, contains_nothing, not_before_itself, each_contained}
 use Rattle.lift_core.proofs.Orders.{in_filter, from_filter, in_map, from_map, norm_cmp_total}
 use Rattle.stage_store.specs.Classes.{pairs_of, IsPairAt, row_at}

@@ -7,7 +7,8 @@ use Rattle.int_vector.specs.Vectors.{lex_cmp}
 use Rattle.lift_core.proofs.Orders.{in_map}
 use Rattle.std.proofs.lemmas.List.{map-append, append_assoc, take_more}
 use Rattle.std.proofs.lemmas.List.Elements.{Contains-append_cases, Contains-append_left, Contains-append_right, Contains-get_or}
-use Rattle.row_pool.specs.Rows.{InRange, PoolValue}
+use Rattle.int_vector.specs.Range.{InRange}
+use Rattle.row_pool.specs.Rows.{PoolValue}
 use Rattle.lift_core.specs.Lists.{IsListOf}
 use Rattle.lift_core.proofs.Lists.{contains_cases, contains_nothing}
 use Rattle.lift_core.specs.Inside.OrderedRows.{rows_behind, IsOrdered}

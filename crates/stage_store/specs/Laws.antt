@@ -1,13 +1,9 @@
 -- Laws on the numbering.
-use Rattle.std.specs.Prelude.{◌≡◌, ◌↔◌, ℕ, ◌+◌, ◌<◌, List, ℤ, [], length, slice_index_or}
+use Rattle.std.specs.Prelude.{◌≡◌, ℕ, ◌<◌, List, ℤ, [], length, slice_index_or}
 use Rattle.std.specs.List.Sorted.{IsStrictlySortedBy}
-use Rattle.std.specs.List.{Contains}
-use Rattle.lift_core.specs.Stages.{norm_cmp, stage_norm, IsPair}
+use Rattle.lift_core.specs.PureMachine.{AreNumbered}
+use Rattle.lift_core.specs.Stages.{norm_cmp}
 use Rattle.stage_store.specs.Classes.{pairs_of}
-
--- the pairs of norm e, each at one place or more, which is its number
-abbrev pub AreNumbered : List (List ℤ) → ℕ → List (List ℤ × List ℤ) → Type 0
-AreNumbered listed e pairs = (f g : List ℤ) → Contains pairs (f, g) ↔ (IsPair listed f g × (stage_norm f + stage_norm g ≡ e))
 
 -- the list has exactly the pairs of the norm
 abbrev pub PairsAreNumbered : Type 0

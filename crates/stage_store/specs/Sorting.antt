@@ -1,7 +1,7 @@
 -- Rows of a width with entries in range.
 use Rattle.std.specs.Prelude.{◌≡◌, ℕ, ℤ, List, length, All}
 use Rattle.std.specs.List.{Contains}
-use Rattle.row_pool.specs.Rows.{InRange}
+use Rattle.int_vector.specs.Range.{InRange}
 
 -- each row has so many entries, all in range
 abbrev pub AreFit : ℕ → List (List ℤ) → Type 0

@@ -4,7 +4,7 @@ ghost use Rattle.std.specs.Prelude.{◌≡◌, ◌⊎◌, ◌≤◌, ◌<◌, �
 ghost use Rattle.std.specs.List.{Contains};
 ghost use Rattle.lift_core.specs.Lists.{IsListOf};
 ghost use Rattle.int_vector.specs.Vectors.{lex_cmp};
-ghost use Rattle.row_pool.specs.Rows.{InRange};
+ghost use Rattle.int_vector.specs.Range.{InRange};
 ghost use Rattle.lift_core.specs.Inside.OrderedRows.{rows_behind};
 ghost use Rattle.stage_store.specs.Sorting.{AreFit};
 

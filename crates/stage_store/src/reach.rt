@@ -9,7 +9,7 @@ ghost use Rattle.stage_store.specs.Found.{IsReduced};
 ghost use Rattle.stage_store.specs.Indexed.{HoldsRows};
 ghost use Rattle.std.specs.List.{Contains};
 ghost use Rattle.lift_core.specs.Systems.{LinearSystem};
-ghost use Rattle.row_pool.specs.Rows.{InRange};
+ghost use Rattle.int_vector.specs.Range.{InRange};
 ghost use Rattle.stage_store.specs.Reaches.{entry_against, with_reach, AreFarApart, AreReaches, IsReachOr};
 ghost use Rattle.stage_store.specs.Sieve.{HasNoNewSum, HasNoNewSumBy};
 

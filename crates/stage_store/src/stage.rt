@@ -12,7 +12,7 @@ ghost use Rattle.lift_core.specs.ToolSystems.{width};
 ghost use Rattle.lift_core.specs.Systems.{Solves};
 ghost use Rattle.lift_core.specs.Walks.{used_up_to};
 ghost use Rattle.lift_core.specs.Ends.{solution_cmp};
-ghost use Rattle.row_pool.specs.Rows.{InRange};
+ghost use Rattle.int_vector.specs.Range.{InRange};
 ghost use Rattle.stage_store.specs.Stage.{StageValue, IsStage, IsDefined, used_of};
 ghost use Rattle.stage_store.specs.Classes.{pairs_of, IsPairAt};
 ghost use Rattle.stage_store.specs.Numbered.{GainsNumbered};

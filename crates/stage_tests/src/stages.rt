@@ -3,7 +3,7 @@
 ghost use Rattle.std.specs.Prelude.{All};
 ghost use Rattle.int_vector.specs.Range.{IsCap};
 ghost use Rattle.lift_core.specs.ToolSystems.{IsSign};
-ghost use Rattle.row_pool.specs.Rows.{InRange};
+ghost use Rattle.int_vector.specs.Range.{InRange};
 
 use lift_core::{System, Tool};
 use row_pool::RowId;

@@ -18,10 +18,10 @@ abbrev pub text_end : TextEnd → FileEnd
 text_end (text.Bad fault) = file.Bad (Text fault)
 text_end text.Memory = file.Memory
 
-abbrev pub read_end : ReadEnd → FileEnd
-read_end (read.TooLong len) = file.Bad (TooLong len)
-read_end read.Failed = file.Failed
-read_end read.Memory = file.Memory
+abbrev pub file_end : ReadEnd → FileEnd
+file_end (read.TooLong len) = file.Bad (TooLong len)
+file_end read.Failed = file.Failed
+file_end read.Memory = file.Memory
 
 abbrev pub shape_end : ShapeEnd → InputStop
 shape_end (shape.Bad fault) = stop.Bad (Shape fault)

@@ -88,11 +88,11 @@ FindsBy view (Err stop.Memory) expected = Unit {0}
 abbrev pub Finds : {A : Type 0} → Result A InputStop → Result A InputFault → Type 0
 Finds result expected = FindsBy (λ x. x) result expected
 
-abbrev pub Gives : {A : Type 0} → Result A InputEnd → Result A InputFault → Type 0
-Gives (Ok x) expected = expected ≡ Ok x
-Gives (Err (input.Bad fault)) expected = expected ≡ Err fault
-Gives (Err input.Failed) expected = Unit {0}
-Gives (Err input.Memory) expected = Unit {0}
+abbrev pub GivesInput : {A : Type 0} → Result A InputEnd → Result A InputFault → Type 0
+GivesInput (Ok x) expected = expected ≡ Ok x
+GivesInput (Err (input.Bad fault)) expected = expected ≡ Err fault
+GivesInput (Err input.Failed) expected = Unit {0}
+GivesInput (Err input.Memory) expected = Unit {0}
 
 -- the count has not fallen, and a failure is answered only where it rose
 pub record HasStopCause {T : Type 0} (before now : ℕ) (result : Result T InputStop) : Type 0 where

@@ -1,7 +1,7 @@
 //! What is wrong with a file, and with a project's files.
 
 ghost use Rattle.std.specs.Prelude.{◌≡◌};
-ghost use Rattle.system_files.specs.Ends.{text_end, read_end, shape_end, input_end};
+ghost use Rattle.system_files.specs.Ends.{text_end, file_end, shape_end, input_end};
 ghost use Rattle.system_files.specs.declared.faults.FileEnd.TheVariants as file;
 ghost use Rattle.system_files.specs.declared.faults.InputStop.TheVariants as stop;
 
@@ -86,7 +86,7 @@ impl From<TextEnd> for FileEnd {
 }
 
 impl From<ReadEnd> for FileEnd {
-    ghost from_gives = { λ read e. e ≡ read_end read };
+    ghost from_gives = { λ read e. e ≡ file_end read };
 
     fn from(end: ReadEnd) -> FileEnd {
         match end {

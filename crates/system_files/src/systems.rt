@@ -6,7 +6,7 @@ ghost use Rattle.lift_core.specs.Systems.{ToolSystem};
 ghost use Rattle.system_shape.specs.Shape.{shape_fault};
 ghost use Rattle.system_files.specs.Sources.{file_name};
 ghost use Rattle.system_files.specs.Files.{grid_in, optional_grid_in, optional_relations_in, optional_caps_in};
-ghost use Rattle.system_files.specs.Inputs.{placed, at, without, unsupported, input_in, accepted_in, system_in, Finds, FindsBy, Gives, IsShaped, unless_fault, HasStopCause, HasInputCause};
+ghost use Rattle.system_files.specs.Inputs.{placed, at, without, unsupported, input_in, accepted_in, system_in, Finds, FindsBy, GivesInput, IsShaped, unless_fault, HasStopCause, HasInputCause};
 
 use crate::files::{
     file_name, read_grid_file, read_optional_caps, read_optional_grid, read_optional_relations,
@@ -250,7 +250,7 @@ pub fn read_system<F: Folder>(
     ensures same { F.held folder.new ≡ F.held folder.old }
 
     // Each fault is the first of the files, and the system is the one that they stand for.
-    ensures system { IfSome (F.held folder.old) (λ files. Gives result (system_in tool project.now files)) }
+    ensures system { IfSome (F.held folder.old) (λ files. GivesInput result (system_in tool project.now files)) }
 
     // A failure is answered only where the folder's count of faults rose.
     ensures cause { HasInputCause (F.faults folder.old) (F.faults folder.new) result }

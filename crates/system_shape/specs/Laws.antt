@@ -39,8 +39,8 @@ FullSolves =
 
 -- a vector that solves the linear system is the full vector of a solution: x is its first entries, and c its entry in
 -- the column of x0
-abbrev pub IsFull : Type 0
-IsFull =
+abbrev pub SolutionsAreFull : Type 0
+SolutionsAreFull =
     (U : UserSystem) (v : List ℤ) → IsWellFormed U → Solves (linear_system U) (length U.rows) v
     → IsX0 U.x0 (x0_in U.x0 v) × SolvesUser U (x0_in U.x0 v) (take (length U.signs) v)
     × (v ≡ full_vector U (x0_in U.x0 v) (take (length U.signs) v))

@@ -1,11 +1,11 @@
 //! The laws between the user's system and the linear system that stands for it.
 
-ghost use Rattle.system_shape.specs.Laws.{FullSolves, IsFull, OneSolution, OneVector, FirstEntriesDecide, WrittenForUser, WantedForUser, GraverForUser};
+ghost use Rattle.system_shape.specs.Laws.{FullSolves, SolutionsAreFull, OneSolution, OneVector, FirstEntriesDecide, WrittenForUser, WantedForUser, GraverForUser};
 
 /// Solutions of the user's system and vectors that solve the linear system belong to each other one by one.
 pub fn shape_law()
     ensures full { FullSolves }
-    ensures is { IsFull }
+    ensures is { SolutionsAreFull }
     ensures one_solution { OneSolution }
     ensures one_vector { OneVector }
     ensures first { FirstEntriesDecide }

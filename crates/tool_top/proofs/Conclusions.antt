@@ -16,7 +16,7 @@ use Rattle.system_files.specs.declared.faults.InputStop.{InputStop}
 use Rattle.system_files.specs.declared.faults.InputStop.TheVariants as stop
 use Rattle.system_files.specs.declared.systems.Shaped.{Shaped}
 use Rattle.system_files.specs.Inputs.{FindsBy, IsShaped}
-use Rattle.tool_words.specs.Jobs.{job_of, Reads}
+use Rattle.tool_words.specs.Jobs.{job_of, ReadsJob}
 use Rattle.tool_words.specs.declared.jobs.Job.{Job}
 use Rattle.tool_words.specs.declared.jobs.WordEnd.{WordEnd}
 use Rattle.tool_words.specs.declared.jobs.WordEnd.TheVariants.{Usage as NoForm, Memory as NoMemory}
@@ -33,10 +33,10 @@ use Rattle.tool_top.specs.declared.ends.Part.TheVariants.{Mat, Ckp0, Ckp1, Out}
 use Rattle.tool_top.specs.declared.ends.End.{End}
 use Rattle.tool_top.specs.declared.ends.End.TheVariants.{Done, Usage, Missing, TooLong, Text, Refused, Shape, Outside, Memory}
 use Rattle.tool_top.specs.declared.ends.Totals.{Totals}
-use Rattle.tool_top.specs.Plan.{Plan, input_in, project_of, part_of, answer_of, plan_of, plan_for, resumes, interval_for, system_of_plan, stored_of}
+use Rattle.tool_top.specs.Plan.{Plan, input_for, project_of, part_of, answer_of, plan_of, plan_for, resumes, interval_for, system_of_plan, stored_of}
 use Rattle.tool_top.specs.Names.{file_name}
 use Rattle.tool_top.specs.Outputs.{written_all}
-use Rattle.tool_top.specs.Expected.{AreRefused, Starts, StartsAs, IsExpected, ComesTo, OnDone}
+use Rattle.tool_top.specs.Expected.{AreRefused, Starts, StartsAs, IsExpected, IsExpectedOr, OnDone}
 use Rattle.tool_top.specs.Summary.{Tells}
 use Rattle.tool_top.specs.Left.{Traces, HasWritten, IsUntouched, LeavesCut, Leaves}
 use Rattle.tool_top.specs.Inside.Ends.{Asks, FindsStartOf, end_of_words, end_of_stop, end_of_start, end_of, Ends}
@@ -216,7 +216,7 @@ at_least_one (Some n) h = h.0
 -- reading the files of a job came to this
 module _ (tool : Tool) (job : Job) where
   plan_fails : (files : Files) (fault : InputFault)
-      → input_in tool job.tables (project_of job) files ≡ Err fault
+      → input_for tool job.tables (project_of job) files ≡ Err fault
       → plan_of tool job files ≡ Err (answer_of fault)
   plan_fails files fault found = rw found refl
 
@@ -231,12 +231,12 @@ module _ (tool : Tool) (job : Job) where
   }
 
   plan_is : (files : Files) (input : Input)
-      → input_in tool job.tables (project_of job) files ≡ Ok input
+      → input_for tool job.tables (project_of job) files ≡ Ok input
       → plan_of tool job files ≡ Ok (with_input input files)
   plan_is files input found = rw found refl
 
   stop_ends : (files : Files) (e : InputStop)
-      → FindsBy (λ (s : Shaped). s.input) (Err e) (input_in tool job.tables (project_of job) files)
+      → FindsBy (λ (s : Shaped). s.input) (Err e) (input_for tool job.tables (project_of job) files)
       → (t : Traces) → IsUntouched t → Ends (plan_of tool job files) t (end_of_stop e)
   stop_ends files (stop.Bad fault) f t u = fault_ends (plan_of tool job files) fault (plan_fails
       files fault f) t u
@@ -249,7 +249,7 @@ module _ (tool : Tool) (job : Job) where
 
   pub ends-early : (held new : Option Files) (told : Option (List ℕ)) (e : InputStop) (r : Result
       Totals End) → new ≡ held
-      → IfSome held (λ files. FindsBy (λ (s : Shaped). s.input) (Err e) (input_in tool job.tables
+      → IfSome held (λ files. FindsBy (λ (s : Shaped). s.input) (Err e) (input_for tool job.tables
       (project_of job) files))
       → IsErrAnd r (λ y. y ≡ end_of_stop e) → IfSome held (λ files. Ends (plan_of tool job files)
       (traces files new told told) (end_of r))
@@ -280,7 +280,7 @@ module _ (tool : Tool) (job : Job) where
   -- the folder is as before, and these are the plan's files
   pub ends-start : (input : Input) (held mid new : Option Files) (told : Option (List ℕ)) (S :
       ToolSystem) (e : StartEnd) (r : Result Totals End) → mid ≡ held → new ≡ mid
-      → IfSome held (λ files. input_in tool job.tables (project_of job) files ≡ Ok input)
+      → IfSome held (λ files. input_for tool job.tables (project_of job) files ≡ Ok input)
       → S ≡ tool_system tool input
       → IfSome mid (λ files. FindsStartOf (resumes job) S (stored_of (project_of job) files) (Err
       e)) → IsErrAnd r (λ y. y ≡ end_of_start e)
@@ -318,7 +318,7 @@ module _ (tool : Tool) (job : Job) where
   -- a run that is carried out ends as its plan says
   pub ends-carried : (input : Input) (held mid last new : Option Files) (told tells : Option (List
       ℕ)) (S : ToolSystem) (s : Start) (e : End) → mid ≡ held → last ≡ mid
-      → IfSome held (λ files. input_in tool job.tables (project_of job) files ≡ Ok input)
+      → IfSome held (λ files. input_for tool job.tables (project_of job) files ≡ Ok input)
       → IsShaped tool input S
       → IfSome mid (λ files. FindsStartOf (resumes job) S (stored_of (project_of job) files) (Ok s))
       → ((stored : Stored) → IsShaped tool input (tool_system tool input)
@@ -385,7 +385,7 @@ written (Ok p) t (Done s u n) h = h.written
 written (Err answer) t (Done s u n) h = absurd h
 written plan t e h = tt
 
-expected : (plan : Result Plan End) (e : End) → ComesTo plan e → ((part : Part)
+expected : (plan : Result Plan End) (e : End) → IsExpectedOr plan e → ((part : Part)
     → e ≡ Outside part → ⊥) → IsExpected plan e ⊎ (e ≡ Memory)
 expected plan (Outside part) h calm = absurd (calm part refl)
 expected plan Memory h calm = inr refl
@@ -415,9 +415,9 @@ module _ (held new : Option Files) (plan : Files
       ]
 
   pub all-expected : IfSome held (λ files. Ends (plan files) (traces files new told tells) e)
-      → IfSome held (λ files. ComesTo (plan files) e)
+      → IfSome held (λ files. IsExpectedOr (plan files) e)
   all-expected = elim held as (λ held. IfSome held (λ files. Ends (plan files) (traces files new
-      told tells) e) → IfSome held (λ files. ComesTo (plan files) e)) [
+      told tells) e) → IfSome held (λ files. IsExpectedOr (plan files) e)) [
         | None ↦ λ h. tt
         | Some files ↦ λ h. h.comes
       ]
@@ -449,7 +449,7 @@ unwritten project None = refl
 unwritten project (Some files) = refl
 
 -- the job that was read is the one that the words ask for
-pub asks_of : (tool : Tool) (words : List (List ℕ)) (r : Result Job WordEnd) → Reads tool words r
+pub asks_of : (tool : Tool) (words : List (List ℕ)) (r : Result Job WordEnd) → ReadsJob tool words r
     → Asks (job_of tool words) r
 asks_of tool words (Ok job) h = h
 asks_of tool words (Err NoForm) h = h

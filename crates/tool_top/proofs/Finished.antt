@@ -23,7 +23,7 @@ use Rattle.backups.specs.declared.running.Stopped.{Stopped}
 use Rattle.backups.specs.declared.starts.Slot.{Slot}
 use Rattle.backups.specs.declared.starts.Slot.TheVariants.{First, Second}
 use Rattle.backups.specs.declared.starts.Start.{Start}
-use Rattle.backups.specs.Starts.{Stored, StartComesTo, first_slot, name_of, names_from}
+use Rattle.backups.specs.Starts.{Stored, StartComesTo, first_slot, slot_name, names_from}
 use Rattle.backups.specs.Standing.{Turns, turns_from, backed, backed_up_of, names_after, LeavesFrom, LeavesRun, came_to}
 use Rattle.tool_top.specs.declared.ends.Part.{Part}
 use Rattle.tool_top.specs.declared.ends.Part.TheVariants.{Ckp0, Ckp1, Gra, Hil, Zhom, Zinhom, Out}
@@ -32,7 +32,7 @@ use Rattle.tool_top.specs.declared.ends.End.TheVariants.{Usage, Outside, Memory}
 use Rattle.tool_top.specs.declared.ends.Totals.{Totals}
 use Rattle.tool_top.specs.Names.{file_name}
 use Rattle.tool_top.specs.Plan.{Plan, project_of, interval_for, part_of_slot}
-use Rattle.tool_top.specs.Outputs.{OutputFile, file_of, to_write, written_all, rows_in, norms_in}
+use Rattle.tool_top.specs.Outputs.{OutputFile, file_of, to_write, written_all, total_rows, norms_in}
 use Rattle.tool_top.specs.Expected.{limits_of, StartsAs, Finishes}
 use Rattle.tool_top.specs.Summary.{Tells}
 use Rattle.tool_top.specs.Left.{Traces, BacksUp, IsCutAt, IsCutInFile, LeavesCut, turns_for}
@@ -55,7 +55,7 @@ none_backed turns files = none_of turns.interval turns.names files
 
 -- the backup that follows these goes to the file of some slot
 next_slot : (slot : Slot) (first second : List ℕ) (stages : List StageValue)
-    → (next : Slot) × (name_of next first second ≡ slice_index_or (names_after (names_from slot
+    → (next : Slot) × (slot_name next first second ≡ slice_index_or (names_after (names_from slot
     first second) stages) 0 [])
 next_slot slot first second [] = (slot, refl)
 next_slot First first second (stage ∷ stages) = next_slot Second first second stages
@@ -68,14 +68,14 @@ module _ (slot : Slot) (interval : Option ℕ) (first second : List ℕ) (limits
 
   left_first : (from : Lifted) (end : LiftEnd) (before : Files) (after : Option Files)
       → LeavesFrom its_turns limits from (Ok end) before after
-      → (next : Slot) × LeavesFrom its_turns limits from (Err (name_of next first second)) before after
+      → (next : Slot) × LeavesFrom its_turns limits from (Err (slot_name next first second)) before after
   left_first (Next s) end before after h =
-      let n : (next : Slot) × (name_of next first second ≡ slice_index_or (names_after (names_from
+      let n : (next : Slot) × (slot_name next first second ≡ slice_index_or (names_after (names_from
       slot first second) (backed_up_of interval h.closed)) 0 []) = next_slot slot first second
       (backed_up_of interval h.closed) in
       (n.0, (h.closed, h.closes.0, h.closes.1, n.1, inl h.files))
   left_first (Last f) end before after h =
-      let n : (next : Slot) × (name_of next first second ≡ slice_index_or (names_after (names_from
+      let n : (next : Slot) × (slot_name next first second ≡ slice_index_or (names_after (names_from
       slot first second) (backed_up_of interval [])) 0 []) = next_slot slot first second
       (backed_up_of interval []) in
       let same : after ≡ Some before = h.files ∙ ap (λ (l : List StageValue). Some (backed its_turns l
@@ -84,9 +84,9 @@ module _ (slot : Slot) (interval : Option ℕ) (first second : List ℕ) (limits
 
   pub broken_off : (start : Start) (end : LiftEnd) (before : Files) (after : Option Files)
       → LeavesRun its_turns limits start (Ok end) before after
-      → (next : Slot) × LeavesRun its_turns limits start (Err (name_of next first second)) before after
+      → (next : Slot) × LeavesRun its_turns limits start (Err (slot_name next first second)) before after
   broken_off start end before after (inl h) =
-      let l : (next : Slot) × LeavesFrom its_turns limits h.0 (Err (name_of next first second))
+      let l : (next : Slot) × LeavesFrom its_turns limits h.0 (Err (slot_name next first second))
       before after = left_first h.0 end before after h.2 in
       (l.0, inl (h.0, h.1, l.1))
   broken_off start end before after (inr h) = absurd (came_not end h.0)
@@ -184,7 +184,7 @@ module _ (tool : Tool) (job : Job) (input : Input) (stored : Stored) where
   module _ (s : Start) (starts : StartsAs the_plan s) where
     -- the name of a slot's file
     abbrev named : Slot → List ℕ
-    named slot = name_of slot (file_name (project_of job) Ckp0) (file_name (project_of job) Ckp1)
+    named slot = slot_name slot (file_name (project_of job) Ckp0) (file_name (project_of job) Ckp1)
 
     broke : (slot : Slot) (t : Traces)
         → BacksUp the_plan s (Err (named slot)) t.files_before t.files_after
@@ -470,11 +470,11 @@ tells-told job outputs used told tells (Ok totals) h = h.out
 tells-told job outputs used told tells (Err (Outside part)) h = inr (
   h.0,
   (
-    rows_in outputs,
+    total_rows outputs,
     used,
     norms_in outputs,
     h.1,
   ),
 )
-tells-told job outputs used told tells (Err Memory) h = inr (rows_in outputs, used, norms_in outputs, h)
+tells-told job outputs used told tells (Err Memory) h = inr (total_rows outputs, used, norms_in outputs, h)
 tells-told job outputs used told tells (Err e) h = absurd h

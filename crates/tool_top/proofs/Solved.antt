@@ -20,11 +20,11 @@ use Rattle.tool_top.specs.declared.ends.Part.TheVariants.{Gra, Hil, Zhom, Zinhom
 use Rattle.tool_top.specs.declared.ends.End.{End}
 use Rattle.tool_top.specs.declared.ends.End.TheVariants.{Done}
 use Rattle.tool_top.specs.Names.{file_name}
-use Rattle.tool_top.specs.Plan.{Plan, plan_of, plan_for, user_of, system_of_plan, project_of, answered, input_in, stored_of}
+use Rattle.tool_top.specs.Plan.{Plan, plan_of, plan_for, user_of, system_of_plan, project_of, answered, input_for, stored_of}
 use Rattle.tool_top.specs.Outputs.{OutputFile, file_of, AreOutputsOf, AreOutputs, written_all, to_write}
 use Rattle.tool_top.specs.Expected.{Starts, OnDone}
 use Rattle.tool_top.specs.Left.{HasWritten}
-use Rattle.tool_top.specs.Solved.{IsHeld, HoldsSolutions, Solves}
+use Rattle.tool_top.specs.Solved.{IsHeld, HoldsSolutions, IsSolved}
 
 -- the two files of zsolve have names of their own
 names_differ : (project : List ℕ) → file_name project Zhom ≡ file_name project Zinhom → ⊥
@@ -88,16 +88,16 @@ read_solved tool job before after none fresh (Err fault) h = h
 -- a job that begins from nothing
 job_solved : (tool : Tool) (job : Job) (before : Files) (after : Option Files)
     → IsOkAnd (plan_of tool job before) (λ p. HasWritten p before after)
-    → Solves tool (Some job) before after
+    → IsSolved tool (Some job) before after
 job_solved tool job before after h none fresh =
     read_solved tool job before after none fresh (accepted_in tool (project_of job) before) (subst (λ t.
-    IsOkAnd (answered (input_in tool t (project_of job) before) >>= (λ input. Ok (planned_by tool job before input)))
+    IsOkAnd (answered (input_for tool t (project_of job) before) >>= (λ input. Ok (planned_by tool job before input)))
     (λ p. HasWritten p before after)) none h)
 
 -- a job, where the words ask for one
 solves : (tool : Tool) (asked : Option Job) (before : Files) (after : Option Files)
     → IsOkAnd (plan_for tool asked before) (λ p. HasWritten p before after)
-    → Solves tool asked before after
+    → IsSolved tool asked before after
 solves tool None before after h = h
 solves tool (Some job) before after h = job_solved tool job before after h
 
@@ -108,8 +108,8 @@ on_done e A B f h = tt
 -- what the top call says of each end
 pub all-solved : (tool : Tool) (asked : Option Job) (held new : Option Files) (e : End)
     → IfSome held (λ files. OnDone e (IsOkAnd (plan_for tool asked files) (λ p. HasWritten p files new)))
-    → IfSome held (λ files. OnDone e (Solves tool asked files new))
+    → IfSome held (λ files. OnDone e (IsSolved tool asked files new))
 all-solved tool asked None new e h = tt
 all-solved tool asked (Some files) new e h =
-    on_done e (IsOkAnd (plan_for tool asked files) (λ p. HasWritten p files new)) (Solves tool asked files new)
+    on_done e (IsOkAnd (plan_for tool asked files) (λ p. HasWritten p files new)) (IsSolved tool asked files new)
     (solves tool asked files new) h

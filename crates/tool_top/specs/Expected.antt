@@ -8,11 +8,11 @@ use Rattle.restart_file.specs.declared.ends.RestartFault.{RestartFault}
 use Rattle.tool_words.specs.declared.jobs.Job.{Job}
 use Rattle.backups.specs.declared.starts.Start.{Start}
 use Rattle.backups.specs.declared.starts.Start.TheVariants.{Fresh}
-use Rattle.backups.specs.Starts.{Stored, Resumes, IsRefused, StartComesTo}
+use Rattle.backups.specs.Starts.{Stored, Resumes, HasFirstFault, StartComesTo}
 use Rattle.tool_top.specs.declared.ends.End.{End}
 use Rattle.tool_top.specs.declared.ends.End.TheVariants.{Done, BadRestart, Overflow, Pairs, Rows, Outside, Memory}
 use Rattle.tool_top.specs.Plan.{Plan, resumes, system_of_plan}
-use Rattle.tool_top.specs.Outputs.{OutputFile, AreOutputs, rows_in, norms_in}
+use Rattle.tool_top.specs.Outputs.{OutputFile, AreOutputs, total_rows, norms_in}
 
 -- the pair budget and the row budget of the words
 abbrev pub limits_of : Job → Limits
@@ -30,8 +30,8 @@ StartsAs p start = Starts (resumes p.job) (system_of_plan p) p.stored start
 -- neither restart file is accepted, and these are the first faults of both
 pub record AreRefused (p : Plan) (first second : RestartFault) : Type 0 where
   pub resumed : resumes p.job ≡ true
-  pub first_fault : IsRefused (system_of_plan p) p.stored.first first
-  pub second_fault : IsRefused (system_of_plan p) p.stored.second second
+  pub first_fault : HasFirstFault (system_of_plan p) p.stored.first first
+  pub second_fault : HasFirstFault (system_of_plan p) p.stored.second second
 
 -- the run of the plan's system within the limits comes to this
 abbrev pub RunComesTo : Plan → LiftEnd → Type 0
@@ -49,7 +49,7 @@ pub record Finishes (p : Plan) (pairs : ℕ) (outputs : List OutputFile) : Type 
 pub record HasNumbers (p : Plan) (solutions pairs norms : ℕ) : Type 0 where
   pub outputs : List OutputFile
   pub finishes : Finishes p pairs outputs
-  pub solutions_are : solutions ≡ rows_in outputs
+  pub solutions_are : solutions ≡ total_rows outputs
   pub norms_are : norms ≡ norms_in outputs
 
 -- what a plan comes to within the limits
@@ -68,10 +68,10 @@ IsExpected (Ok plan) end = PlanComesTo plan end
 IsExpected (Err answer) end = end ≡ answer
 
 -- the expected end; a device's fault and running out of memory come by themselves
-abbrev pub ComesTo : Result Plan End → End → Type 0
-ComesTo plan (Outside part) = Unit {0}
-ComesTo plan Memory = Unit {0}
-ComesTo plan end = IsExpected plan end
+abbrev pub IsExpectedOr : Result Plan End → End → Type 0
+IsExpectedOr plan (Outside part) = Unit {0}
+IsExpectedOr plan Memory = Unit {0}
+IsExpectedOr plan end = IsExpected plan end
 
 -- at Done, this
 abbrev pub OnDone : End → Type 0 → Type 0

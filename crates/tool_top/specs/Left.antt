@@ -18,7 +18,7 @@ use Rattle.tool_top.specs.declared.ends.End.{End}
 use Rattle.tool_top.specs.declared.ends.End.TheVariants.{Done, Overflow, Pairs, Rows, Outside, Memory}
 use Rattle.tool_top.specs.Names.{file_name}
 use Rattle.tool_top.specs.Plan.{Plan, project_of, interval_for, resumes}
-use Rattle.tool_top.specs.Outputs.{OutputFile, to_write, written_all, rows_in, norms_in}
+use Rattle.tool_top.specs.Outputs.{OutputFile, to_write, written_all, total_rows, norms_in}
 use Rattle.tool_top.specs.Expected.{limits_of, StartsAs, Finishes}
 use Rattle.tool_top.specs.Summary.{summary_of}
 
@@ -108,7 +108,7 @@ pub record IsCutInSummary (p : Plan) (t : Traces) : Type 0 where
   pub files : Files
   pub backups : BacksUp p finishes.start (Ok (finished finishes.rows pairs)) t.files_before (Some files)
   pub whole : t.files_after ≡ Some (written_all (project_of p.job) (to_write p.job.tables outputs) files)
-  pub out : MayPut (summary_of p.job (rows_in outputs) pairs (norms_in outputs)) t.out_before t.out_after
+  pub out : MayPut (summary_of p.job (total_rows outputs) pairs (norms_in outputs)) t.out_before t.out_after
 
 -- ---- all ends
 -- what a fault of this part leaves: of an output file, a prefix of its text may stand there; of

@@ -85,8 +85,8 @@ to_write None outputs = outputs
 to_write (Some k) outputs = []
 
 -- the numbers of the summary: all rows, and the sum of their norms
-abbrev pub rows_in : List OutputFile → ℕ
-rows_in files = sum_by (λ f. f.rows) files
+abbrev pub total_rows : List OutputFile → ℕ
+total_rows files = sum_by (λ f. f.rows) files
 
 abbrev pub norms_in : List OutputFile → ℕ
 norms_in files = sum_by (λ f. f.norms) files

@@ -94,15 +94,15 @@ answered (Ok x) = Ok x
 answered (Err fault) = Err (answer_of fault)
 
 -- the matrix of the tables, without a look at any file; or what the project's files say
-abbrev pub input_in : Tool → Option ℕ → List ℕ → Files → Result Input InputFault
-input_in tool (Some k) project files =
+abbrev pub input_for : Tool → Option ℕ → List ℕ → Files → Result Input InputFault
+input_for tool (Some k) project files =
     unless_fault (shape_fault tool (tables_input k)) (tables_input k)
-input_in tool None project files = accepted_in tool project files
+input_for tool None project files = accepted_in tool project files
 
 -- what the files answer to a job, or its plan
 abbrev pub plan_of : Tool → Job → Files → Result Plan End
 plan_of tool job files = do
-  input ← answered (input_in tool job.tables (project_of job) files)
+  input ← answered (input_for tool job.tables (project_of job) files)
   Ok (record { job = job; tool = tool; input = input; stored = stored_of (project_of job) files })
 
 abbrev pub plan_for : Tool → Option Job → Files → Result Plan End

@@ -27,8 +27,8 @@ pub record HoldsSolutions (tool : Tool) (project : List ℕ) (input : Input) (fi
 
 -- the project's files are accepted, and its output files then hold exactly the wanted rows, where
 -- the job begins from nothing and its system is that of the project's files
-abbrev pub Solves : Tool → Option Job → Files → Option Files → Type 0
-Solves tool None before after = ⊥
-Solves tool (Some job) before after = job.tables ≡ None → job.resume ≡ false
+abbrev pub IsSolved : Tool → Option Job → Files → Option Files → Type 0
+IsSolved tool None before after = ⊥
+IsSolved tool (Some job) before after = job.tables ≡ None → job.resume ≡ false
     → IsOkAnd (accepted_in tool (project_of job) before) (λ input.
     IsSomeAnd after (HoldsSolutions tool (project_of job) input))

@@ -13,14 +13,14 @@ norm_parts None norms = []
 norm_parts (Some columns) norms = codes "norm total " ∷ decimal norms ∷ codes "\n" ∷ []
 
 -- the line of the two counts, and with tables the line of the sum of the norms
-abbrev pub lines_of : Option ℕ → ℕ → ℕ → ℕ → List ℕ
-lines_of tables solutions pairs norms = text_of_parts
+abbrev pub summary_lines : Option ℕ → ℕ → ℕ → ℕ → List ℕ
+summary_lines tables solutions pairs norms = text_of_parts
     (decimal solutions ∷ codes " solutions, " ∷ decimal pairs ∷ codes " pairs\n" ∷ norm_parts tables norms)
 
 -- the summary of a job: nothing where it is quiet
 abbrev pub summary_of : Job → ℕ → ℕ → ℕ → List ℕ
 summary_of job solutions pairs norms =
-    if job.quiet then [] else lines_of job.tables solutions pairs norms
+    if job.quiet then [] else summary_lines job.tables solutions pairs norms
 
 -- a prefix of some summary of the job was put
 abbrev pub MayTell : Job → Option (List ℕ) → Option (List ℕ) → Type 0

@@ -6,7 +6,7 @@ ghost use Rattle.int_vector.specs.Vectors.{norm};
 ghost use Rattle.outside.specs.Causes.{Rose};
 ghost use Rattle.lift_core.specs.ToolSystems.{width};
 ghost use Rattle.solution_files.specs.Outputs.{IsSelected};
-ghost use Rattle.tool_top.specs.Outputs.{file_of, rows_in, norms_in, written_all};
+ghost use Rattle.tool_top.specs.Outputs.{file_of, total_rows, norms_in, written_all};
 ghost use Rattle.tool_top.specs.Inside.Writing.{output_of, outputs_of, AreSelectedOf, CutsTo};
 
 use crate::ends::refused_at;
@@ -71,7 +71,7 @@ pub(crate) fn select_outputs(alloc: Global, finish: &Finish) -> Result<Outputs, 
 // The number of rows of all outputs.
 pub(crate) fn count_rows(outputs: &Outputs) -> u64
     requires { vec_len outputs.now.list ≤ 2 }
-    ensures { result ≡ rows_in (outputs_of outputs.now) }
+    ensures { result ≡ total_rows (outputs_of outputs.now) }
 {
     let mut total = 0;
     for output in &outputs.list {

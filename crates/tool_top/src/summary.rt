@@ -4,7 +4,7 @@ ghost use Rattle.std.specs.Prelude.{◌≡◌, None, Some, OnOk, OnErr};
 ghost use Rattle.std.specs.Io.KnownBytes.{append_known};
 ghost use Rattle.outside.specs.Causes.{HasCause};
 ghost use Rattle.outside.specs.Pieces.{MayPut};
-ghost use Rattle.tool_top.specs.Summary.{lines_of, summary_of};
+ghost use Rattle.tool_top.specs.Summary.{summary_lines, summary_of};
 
 use itoa::Buffer;
 use outside::{PutEnd, Sink, put_pieces};
@@ -12,8 +12,8 @@ use tool_words::Job;
 
 // Puts the line of the two counts.
 fn put_counts<O: Sink>(out: &mut O, solutions: u64, pairs: u64) -> Result<(), PutEnd>
-    ensures done { OnOk result (O.held out.new ≡ append_known (O.held out.old) (lines_of None solutions pairs 0)) }
-    ensures refused { OnErr result (MayPut (lines_of None solutions pairs 0) (O.held out.old) (O.held out.new)) }
+    ensures done { OnOk result (O.held out.new ≡ append_known (O.held out.old) (summary_lines None solutions pairs 0)) }
+    ensures refused { OnErr result (MayPut (summary_lines None solutions pairs 0) (O.held out.old) (O.held out.new)) }
     ensures cause { HasCause (O.faults out.old) (O.faults out.new) result }
 {
     let mut first = Buffer::new();
@@ -37,9 +37,9 @@ fn put_counts_and_norms<O: Sink>(
     norms: u128,
 ) -> Result<(), PutEnd>
     ensures done { OnOk result (O.held out.new
-        ≡ append_known (O.held out.old) (lines_of (Some 2) solutions pairs norms)) }
+        ≡ append_known (O.held out.old) (summary_lines (Some 2) solutions pairs norms)) }
     ensures refused { OnErr result
-        (MayPut (lines_of (Some 2) solutions pairs norms) (O.held out.old) (O.held out.new)) }
+        (MayPut (summary_lines (Some 2) solutions pairs norms) (O.held out.old) (O.held out.new)) }
     ensures cause { HasCause (O.faults out.old) (O.faults out.new) result }
 {
     let mut first = Buffer::new();

@@ -14,12 +14,12 @@ ghost use Rattle.backups.specs.Standing.{LeavesRun, IsSoundFrom, HasStoppedCause
 ghost use Rattle.tool_words.specs.Jobs.{IsWithinLimits, job_of};
 ghost use Rattle.tool_words.specs.declared.jobs.Job.{Job};
 ghost use Rattle.lift_core.specs.declared.Tool.{Tool};
-ghost use Rattle.tool_top.specs.Plan.{planned, plan_of, plan_for, HasTables, input_in, interval_for, named_project, project_of, resumes, stored_of};
+ghost use Rattle.tool_top.specs.Plan.{planned, plan_of, plan_for, HasTables, input_for, interval_for, named_project, project_of, resumes, stored_of};
 ghost use Rattle.tool_top.specs.Outputs.{to_write, written_all};
-ghost use Rattle.tool_top.specs.Expected.{ComesTo, IsExpected, OnDone, StartsAs, limits_of};
+ghost use Rattle.tool_top.specs.Expected.{IsExpectedOr, IsExpected, OnDone, StartsAs, limits_of};
 ghost use Rattle.tool_top.specs.Messages.{Speaks};
 ghost use Rattle.tool_top.specs.Summary.{Tells, code_of};
-ghost use Rattle.tool_top.specs.Solved.{Solves};
+ghost use Rattle.tool_top.specs.Solved.{IsSolved};
 ghost use Rattle.tool_top.specs.Left.{HasWritten, Leaves, turns_for};
 ghost use Rattle.tool_top.specs.Inside.Ends.{Ends, Asks, FindsStartOf, came_for, end_of, HasSinkCause};
 ghost use Rattle.tool_top.specs.Inside.Names.{AreRestartNames};
@@ -222,7 +222,7 @@ fn read_job<F: Folder>(
     ensures same { F.held folder.new ≡ F.held folder.old }
     ensures apart { IsSome job.now.tables → folder.new ≡ folder.old }
     ensures input { IfSome (F.held folder.old) (λ files. FindsBy (λ s. s.input) result
-        (input_in tool job.now.tables (project_of job.now) files)) }
+        (input_for tool job.now.tables (project_of job.now) files)) }
     ensures shaped { IfOk result (λ s. IsShaped tool s.input s.system) }
     ensures cause { HasStopCause (F.faults folder.old) (F.faults folder.new) result }
 {
@@ -372,7 +372,7 @@ pub fn run_tool<R: Threads + Sync, F: Folder, O: Sink, E: Sink, G: Gate + Sync>(
     // The theorem: a run from nothing that ends well has left exactly the wanted rows of the user's own system in the
     // output files, where the folder tells its files.
     ensures solved { IfSome (F.held folder.old) (λ files.
-        OnDone result.end (Solves tool (job_of tool words.now) files (F.held folder.new))) }
+        OnDone result.end (IsSolved tool (job_of tool words.now) files (F.held folder.new))) }
 
     // For every run, a resumed one too: at Done, the output files hold exactly the wanted rows of the user's own system,
     // the restart files have their backups, and all other files are as before. (Where a run is resumed, `AreOutputs` says
@@ -386,7 +386,7 @@ pub fn run_tool<R: Threads + Sync, F: Folder, O: Sink, E: Sink, G: Gate + Sync>(
         → IsExpected (planned tool words.now files) result.end ⊎ (result.end ≡ End.Memory)) }
 
     // Whether or not a device failed, each end but a device's fault and running out of memory is that one.
-    ensures expected { IfSome (F.held folder.old) (λ files. ComesTo (planned tool words.now files) result.end) }
+    ensures expected { IfSome (F.held folder.old) (λ files. IsExpectedOr (planned tool words.now files) result.end) }
 
     // What then stands in the folder and on standard output.
     ensures leaves { IfSome (F.held folder.old) (λ files. Leaves (planned tool words.now files)

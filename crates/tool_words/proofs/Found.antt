@@ -20,7 +20,7 @@ use Rattle.clap.specs.declared.parser.matches.ValueSource.TheVariants.{DefaultVa
 use Rattle.lift_core.specs.declared.Tool.{Tool}
 use Rattle.lift_core.specs.declared.Tool.TheVariants.{Graver, Hilbert, Zsolve}
 use Rattle.tool_words.specs.Choices.{choices_of}
-use Rattle.tool_words.specs.Walks.{given_of, text_of, is_true}
+use Rattle.tool_words.specs.Walks.{given_of, text_given, is_true}
 use Rattle.tool_words.specs.Jobs.{texts_of}
 use Rattle.tool_words.specs.Inside.Commands.{command_for, texts_in}
 use Rattle.tool_words.proofs.Rules.{app_for, command_built, shown, listed, at_row_new}
@@ -111,13 +111,13 @@ first_shown id [] = refl
 first_shown id (r ∷ rs) = elim (bytes_eq r.id id) as (λ b. option_and_then (λ (r : Row). slice_get r.values 0) (cond b (Some r) (find (λ (r : Row). bytes_eq r.id id) rs))
     ≡ option_and_then (λ (p : Text × List Text). slice_get p.1 0) (cond b (Some (shown r)) (find (λ (p : Text × List Text). bytes_eq p.0 id) (map shown rs)))) [ true ↦ refl | false ↦ first_shown id rs ]
 
-first_listed : (id : Text) (given : Given) → text_of id given ≡ first_in id (map listed given)
+first_listed : (id : Text) (given : Given) → text_given id given ≡ first_in id (map listed given)
 unfolding first_in
 first_listed id [] = refl
 first_listed id (g ∷ gs) = elim (bytes_eq g.0 id) as (λ b. option_map (λ (g : Text × Text). g.1) (cond b (Some g) (find (λ (g : Text × Text). bytes_eq g.0 id) gs))
     ≡ option_and_then (λ (p : Text × List Text). slice_get p.1 0) (cond b (Some (listed g)) (find (λ (p : Text × List Text). bytes_eq p.0 id) (map listed gs)))) [ true ↦ refl | false ↦ first_listed id gs ]
 
-first_given : (id : Text) (rows : List Row) (given : Given) → map shown rows ≡ map listed given → first_of id rows ≡ text_of id given
+first_given : (id : Text) (rows : List Row) (given : Given) → map shown rows ≡ map listed given → first_of id rows ≡ text_given id given
 first_given id rows given e = first_shown id rows ∙ ap (first_in id) e ∙ sym (first_listed id given)
 
 -- ---- the defaults
@@ -191,7 +191,7 @@ finished_is Zsolve rows = no_defaults (drop 2 (rules_for (choices_of Zsolve))) (
 
 texts_with_flags : (rows : List Row) (given : Given) → map shown rows ≡ map listed given → texts_in (with_flags rows) ≡ texts_of given
 texts_with_flags rows given e =
-    let at : (id : Text) → bytes_eq (codes "quiet") id ≡ false → bytes_eq (codes "resume") id ≡ false → first_of id (with_flags rows) ≡ text_of id given =
+    let at : (id : Text) → bytes_eq (codes "quiet") id ≡ false → bytes_eq (codes "resume") id ≡ false → first_of id (with_flags rows) ≡ text_given id given =
     λ id q r. flags_other id rows q r ∙ first_given id rows given e in
     let project = at (codes "project") refl refl in
     let tables = at (codes "tables") refl refl in

@@ -8,7 +8,7 @@ use Rattle.clap.specs.declared.error.kind.ErrorKind.{ErrorKind}
 use Rattle.clap.specs.declared.error.kind.ErrorKind.TheVariants as kind
 use Rattle.lift_core.specs.declared.Tool.{Tool}
 use Rattle.tool_words.specs.Walks.{Given, given_of, ◌>>=◌}
-use Rattle.tool_words.specs.Jobs.{Reads, job_of_texts, texts_of}
+use Rattle.tool_words.specs.Jobs.{ReadsJob, job_of_texts, texts_of}
 use Rattle.tool_words.specs.declared.jobs.Job.{Job}
 use Rattle.tool_words.specs.declared.jobs.WordEnd.{WordEnd}
 use Rattle.tool_words.specs.declared.jobs.WordEnd.TheVariants.{Usage, Memory}
@@ -22,7 +22,7 @@ job_found tool words rows job fault found is None law = absurd (law fault)
 job_found tool words rows job fault found is (Some given) law = ap job_of_texts (sym law.1 ∙ ap texts_in (sym found)) ∙ is
 
 pub reads_found : (tool : Tool) (words : List Text) (rows : List Row) (result : Result Job WordEnd) → AreUtf8 words → fault_of (command_for tool) words ≡ [] → rows ≡ matches_of (command_for tool) words →
-    MakesJob (texts_in rows) result → Reads tool words result
+    MakesJob (texts_in rows) result → ReadsJob tool words result
 reads_found tool words rows (Ok job) utf8 fault found makes = job_found tool words rows (Some job) fault found makes (given_of tool words) (words_found tool words utf8)
 reads_found tool words rows (Err Usage) utf8 fault found makes = job_found tool words rows None fault found makes (given_of tool words) (words_found tool words utf8)
 reads_found tool words rows (Err Memory) utf8 fault found makes = tt
@@ -31,7 +31,7 @@ job_lost : (tool : Tool) (words : List Text) → (fault_of (command_for tool) wo
 job_lost tool words fault None law = refl
 job_lost tool words fault (Some given) law = absurd (fault law.0)
 
-pub reads_refused : (tool : Tool) (words : List Text) (k : ErrorKind) (end : WordEnd) → AreUtf8 words → ((k ≡ kind.OutOfMemory) ⊎ IsAmong k (fault_of (command_for tool) words)) → EndsBy k end → Reads tool words (Err end)
+pub reads_refused : (tool : Tool) (words : List Text) (k : ErrorKind) (end : WordEnd) → AreUtf8 words → ((k ≡ kind.OutOfMemory) ⊎ IsAmong k (fault_of (command_for tool) words)) → EndsBy k end → ReadsJob tool words (Err end)
 reads_refused tool words k Memory utf8 has ends = tt
 reads_refused tool words k Usage utf8 (inl memory) ends = absurd (grind (arith, ends.memory memory))
 reads_refused tool words k Usage utf8 (inr among) ends = job_lost tool words (λ none. subst (IsAmong k) none among) (given_of tool words) (words_found tool words utf8)

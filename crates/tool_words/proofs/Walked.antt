@@ -12,7 +12,7 @@ use Rattle.std.specs.List.{AllByRecursion}
 use Rattle.std.proofs.Common.{fold}
 use Rattle.clap.specs.Walk.{nothing_held, walk, walk_from}
 use Rattle.clap.specs.Faults.{walk_fault}
-use Rattle.tool_words.specs.Walks.{read_all, read_whole, given_of, text_of, is_true}
+use Rattle.tool_words.specs.Walks.{read_all, read_whole, given_of, text_given, is_true}
 use Rattle.tool_words.proofs.Rules.{shown, listed}
 use Rattle.tool_words.proofs.WordSteps.{word_comes, doomed_comes}
 

@@ -3,7 +3,7 @@ use Rattle.std.specs.Prelude.{◌≡◌, ◌^◌, ◌≤◌, ℕ, not, Bool, fal
 use Rattle.lift_core.specs.declared.Tool.{Tool}
 use Rattle.outside.specs.Names.{is_name}
 use Rattle.tool_words.specs.Numbers.{number_in}
-use Rattle.tool_words.specs.Walks.{Text, Given, is_true, text_of, given_of, ◌>>=◌}
+use Rattle.tool_words.specs.Walks.{Text, Given, is_true, text_given, given_of, ◌>>=◌}
 use Rattle.tool_words.specs.declared.jobs.Job.{Job}
 use Rattle.tool_words.specs.declared.jobs.WordEnd.{WordEnd}
 use Rattle.tool_words.specs.declared.jobs.WordEnd.TheVariants.{Usage, Memory}
@@ -21,14 +21,14 @@ pub record Texts : Type 0 where
 
 abbrev pub texts_of : Given → Texts
 texts_of given = record {
-  project = text_of (codes "project") given;
-  tables = text_of (codes "tables") given;
-  workers = text_of (codes "workers") given;
-  pairs = text_of (codes "pairs") given;
-  rows = text_of (codes "rows") given;
-  backup = text_of (codes "backup") given;
-  resume = is_true (text_of (codes "resume") given);
-  quiet = is_true (text_of (codes "quiet") given);
+  project = text_given (codes "project") given;
+  tables = text_given (codes "tables") given;
+  workers = text_given (codes "workers") given;
+  pairs = text_given (codes "pairs") given;
+  rows = text_given (codes "rows") given;
+  backup = text_given (codes "backup") given;
+  resume = is_true (text_given (codes "resume") given);
+  quiet = is_true (text_given (codes "quiet") given);
 }
 
 -- the number of an option that may be left out; none where its text is refused
@@ -69,10 +69,10 @@ abbrev pub job_of : Tool → List Text → Option Job
 job_of tool words = given_of tool words >>= (λ given. job_of_texts (texts_of given))
 
 -- usage exactly where the words are not of the form, and else their job; memory may run out
-abbrev pub Reads : Tool → List Text → Result Job WordEnd → Type 0
-Reads tool words (Ok job) = job_of tool words ≡ Some job
-Reads tool words (Err Usage) = job_of tool words ≡ None
-Reads tool words (Err Memory) = Unit {0}
+abbrev pub ReadsJob : Tool → List Text → Result Job WordEnd → Type 0
+ReadsJob tool words (Ok job) = job_of tool words ≡ Some job
+ReadsJob tool words (Err Usage) = job_of tool words ≡ None
+ReadsJob tool words (Err Memory) = Unit {0}
 
 -- the numbers of a job are within the limits
 pub record IsWithinLimits (job : Job) : Type 0 where

@@ -25,8 +25,8 @@ Given = List (Text × Text)
 abbrev pub is_given : Text → Given → Bool
 is_given name given = list_any (λ g. bytes_eq g.0 name) given
 
-abbrev pub text_of : Text → Given → Option Text
-text_of name given = option_map (λ g. g.1) (find (λ g. bytes_eq g.0 name) given)
+abbrev pub text_given : Text → Given → Option Text
+text_given name given = option_map (λ g. g.1) (find (λ g. bytes_eq g.0 name) given)
 
 abbrev pub is_true : Option Text → Bool
 is_true text = option_map_or (λ t. bytes_eq t (codes "true")) text false

@@ -5,9 +5,9 @@ ghost use Rattle.clap.specs.Walk.{rows_of};
 ghost use Rattle.clap.specs.Matches.{found_of};
 ghost use Rattle.clap.specs.Values.{kind_of};
 ghost use Rattle.tool_words.specs.Numbers.{number_in};
-ghost use Rattle.tool_words.specs.Jobs.{IsWithinLimits, Reads, is_apart};
+ghost use Rattle.tool_words.specs.Jobs.{IsWithinLimits, ReadsJob, is_apart};
 ghost use Rattle.tool_words.specs.Walks.{is_true};
-ghost use Rattle.tool_words.specs.Inside.Commands.{IsNumberOf, MakesJob, EndsBy, seen, texts_in};
+ghost use Rattle.tool_words.specs.Inside.Commands.{IsOptionNumber, MakesJob, EndsBy, seen, texts_in};
 
 use crate::commands::{matches_in, text_in};
 use crate::{Job, Name, WordEnd};
@@ -67,7 +67,7 @@ fn texts<'w>(alloc: Global, words: &'w Words) -> Result<Vec<&'w str>, AllocError
 
 // The number of an option, where it is given.
 fn number_of(text: Option<&str>, least: u64, most: u64) -> Result<Option<u64>, WordEnd>
-    ensures { IsNumberOf least most (option_map (λ t. t.now) text.entry) result }
+    ensures { IsOptionNumber least most (option_map (λ t. t.now) text.entry) result }
 {
     match text {
         None => Ok(None),
@@ -80,7 +80,7 @@ fn number_of(text: Option<&str>, least: u64, most: u64) -> Result<Option<u64>, W
 
 // The same of a number that is small.
 fn small_number_of(text: Option<&str>, least: u32, most: u32) -> Result<Option<u32>, WordEnd>
-    ensures { IsNumberOf least most (option_map (λ t. t.now) text.entry) result }
+    ensures { IsOptionNumber least most (option_map (λ t. t.now) text.entry) result }
 {
     match number_of(text, least as u64, most as u64)? {
         None => Ok(None),
@@ -188,7 +188,7 @@ fn end_of(error: &Error) -> WordEnd
 /// `Usage` exactly where the words are not of the form, and `Memory` where memory runs out.
 pub fn read_words(alloc: Global, tool: Tool, words: &Words) -> Result<Job, WordEnd>
     // The words are not of the form, or the job is theirs.
-    ensures reads { Reads tool words.now result }
+    ensures reads { ReadsJob tool words.now result }
 
     // The numbers of a job are within the limits.
     ensures within { IfOk result IsWithinLimits }

@@ -4,7 +4,7 @@ use Rattle.std.proofs.lemmas.List.Elements.{All-nil, All-cons, All-head, All-tai
 use Rattle.norm_board.specs.declared.board.Board.{Board}
 use Rattle.lift_core.specs.Times.{total_of}
 use Rattle.worker_gate.specs.declared.record.Worker.{Worker}
-use Rattle.worker_gate.specs.Inside.Team.{IsEmpty, IsFine, HasEnded, AllEnded, weight_of, missed_of}
+use Rattle.worker_gate.specs.Inside.Team.{IsEmpty, IsFine, HasEnded, AllEnded, worker_weight, missed_of}
 
 module _ (b : Board) where
   rest : (x : Worker) (xs : List Worker) (y : Worker) (ys : List Worker) → AllEnded b (x ∷ xs) (y ∷ ys) → AllEnded b xs ys
@@ -13,7 +13,7 @@ module _ (b : Board) where
   first : (x : Worker) (xs : List Worker) (y : Worker) (ys : List Worker) → AllEnded b (x ∷ xs) (y ∷ ys) → HasEnded b x y
   first x xs y ys e = e zero x (omega arith)
 
-  pub ended_weight : (xs ys : List Worker) → length ys ≡ length xs → AllEnded b xs ys → total_of weight_of ys ≡ total_of weight_of xs
+  pub ended_weight : (xs ys : List Worker) → length ys ≡ length xs → AllEnded b xs ys → total_of worker_weight ys ≡ total_of worker_weight xs
   ended_weight [] [] l e = refl
   ended_weight [] (y ∷ ys) l e = absurd (omega arith)
   ended_weight (x ∷ xs) [] l e = absurd (omega arith)

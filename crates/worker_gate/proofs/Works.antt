@@ -7,7 +7,7 @@ use Rattle.norm_board.specs.Books.{BookValue}
 use Rattle.lift_core.specs.Times.{times, once_below}
 use Rattle.norm_board.specs.Rule.{gained, joined}
 use Rattle.norm_board.specs.Puts.{Open, HasOpen, PutDone}
-use Rattle.worker_gate.specs.Work.{HasGained}
+use Rattle.worker_gate.specs.Work.{KeepsBlocks}
 use Rattle.worker_gate.specs.Inside.Steps.{LeavesPass}
 use Rattle.lift_core.proofs.Times.{times-append, times_same}
 use Rattle.lift_core.proofs.Times.{once_le}
@@ -56,14 +56,14 @@ put_kept Held v w s t d x = let k = ap (λ (u : View). times x u.kept) d.0 in om
 put_kept Memory v w s t d x = let k = ap (λ (u : View). times x u.kept) d.0 in omega arith
 
 -- after one more draw
-pub draw_gains : (u v w : View) (n : ℕ) → HasGained u v → w ≡ gained v n → HasGained u w
+pub draw_gains : (u v w : View) (n : ℕ) → KeepsBlocks u v → w ≡ gained v n → KeepsBlocks u w
 draw_gains u v w n h e = record {
   drawn = λ x. let a = h.drawn x in let b = ap (λ (z : View). times x z.drawn) e in let c = times-append x v.drawn (n ∷ []) in omega arith;
   kept = λ x. let a = h.kept x in let b = ap (λ (z : View). times x z.kept) e in omega arith;
 }
 
 -- and after a put
-pub leaves_gains : (u v w : View) → HasGained u v → LeavesPass v w → HasGained u w
+pub leaves_gains : (u v w : View) → KeepsBlocks u v → LeavesPass v w → KeepsBlocks u w
 leaves_gains u v w h l = record {
   drawn = λ x. let a = h.drawn x in let b = ap (times x) l.drawn in omega arith;
   kept = λ x. let a = h.kept x in let b = l.kept x in omega arith;

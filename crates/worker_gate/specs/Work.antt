@@ -22,6 +22,6 @@ pub record IsFresh (v : View) : Type 0 where
   pub drawn : v.drawn ≡ []
 
 -- drawn and kept blocks stay so
-pub record HasGained (v w : View) : Type 0 where
+pub record KeepsBlocks (v w : View) : Type 0 where
   pub drawn : (x : ℕ) → times x v.drawn ≤ times x w.drawn
   pub kept : (x : ℕ) → times x v.kept ≤ times x w.kept

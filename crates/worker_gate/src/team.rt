@@ -4,7 +4,7 @@ ghost use Rattle.std.specs.Prelude.{◌≡◌, ◌≤◌, ◌<◌, ◌+◌, ◌+
 ghost use Rattle.lift_core.specs.Times.{total_of};
 ghost use Rattle.norm_board.specs.Seen.{view, Belongs};
 ghost use Rattle.worker_gate.specs.Work.{IsWorker, IsFresh};
-ghost use Rattle.worker_gate.specs.Inside.Team.{IsReady, IsEmpty, HasEnded, AllEnded, MayMerge, IsFine, weight_of, missed_of};
+ghost use Rattle.worker_gate.specs.Inside.Team.{IsReady, IsEmpty, HasEnded, AllEnded, MayMerge, IsFine, worker_weight, missed_of};
 
 use crate::gate::Gate;
 use crate::record::Worker;
@@ -103,7 +103,7 @@ fn recruit_all<'s>(
     ensures ready { IfOk result (λ t. All (IsReady board.entry.now) t.items) }
     ensures empty { IfOk result (λ t. All IsEmpty t.items) }
     ensures count { IfOk result (λ t. (0 < vec_len t) × (vec_len t ≤ 32)) }
-    ensures weight { IfOk result (λ t. total_of weight_of t.items ≡ (view pass).weight) }
+    ensures weight { IfOk result (λ t. total_of worker_weight t.items ≡ (view pass).weight) }
     ensures missed { IfOk result (λ t. total_of missed_of t.items ≡ (view pass).missed) }
 {
     let count = pass.weight();
@@ -121,7 +121,7 @@ fn merge<'s>(board: &Board<'s>, mut team: Vec<Worker<'s>>) -> Result<(Pass, Shar
     requires some { 0 < vec_len team }
     requires done { All (MayMerge board.now) team.items }
     ensures worker { IfOk result (λ r. IsWorker board.entry.now r.0 r.1 × ((view r.0).done ≡ true)) }
-    ensures weight { IfOk result (λ r. (view r.0).weight ≡ total_of weight_of team.entry.items) }
+    ensures weight { IfOk result (λ r. (view r.0).weight ≡ total_of worker_weight team.entry.items) }
     ensures missed { IfOk result (λ r. (view r.0).missed ≡ total_of missed_of team.entry.items) }
     ensures fine { IfOk result (λ r. All IsFine team.entry.items) }
     ensures empty { IfOk result (λ r. All IsEmpty team.entry.items → r.1.blocks ≡ []) }
@@ -158,7 +158,7 @@ fn take_in<'s>(
     requires done { ((view all.old.pass).done ≡ true) × ((view worker.pass).done ≡ true) }
     ensures ready { OnOk result (IsReady board.now all.new) }
     ensures done { OnOk result ((view all.new.pass).done ≡ true) }
-    ensures weight { OnOk result (weight_of all.new ≡ weight_of all.old + weight_of worker.entry) }
+    ensures weight { OnOk result (worker_weight all.new ≡ worker_weight all.old + worker_weight worker.entry) }
     ensures missed { OnOk result (missed_of all.new ≡ missed_of all.old + missed_of worker.entry) }
     ensures blocks { OnOk result (all.new.share.blocks ≡ all.old.share.blocks ++ worker.entry.share.blocks) }
     ensures same { OnOk result (all.new.failed ≡ all.old.failed) }

@@ -3,7 +3,7 @@
 ghost use Rattle.std.specs.Prelude.{◌≡◌, ◌≤◌, true, [], OnOk};
 ghost use Rattle.norm_board.specs.Seen.{view};
 ghost use Rattle.worker_gate.specs.Inside.Steps.{LeavesPass};
-ghost use Rattle.worker_gate.specs.Work.{IsWorker, HasGained};
+ghost use Rattle.worker_gate.specs.Work.{IsWorker, KeepsBlocks};
 
 use crate::gate::{Gate, Point};
 use norm_board::{Board, Pass, Put, Share};
@@ -68,7 +68,7 @@ pub fn work<'s, G: Gate>(
     requires { IsWorker board.now pass.old share.old }
     ensures still { IsWorker board.now pass.new share.new }
     ensures weight { (view pass.new).weight ≡ (view pass.old).weight }
-    ensures gained { HasGained (view pass.old) (view pass.new) }
+    ensures gained { KeepsBlocks (view pass.old) (view pass.new) }
     ensures done { OnOk result ((view pass.new).done ≡ true) }
     ensures missed { (view pass.old).missed ≤ (view pass.new).missed }
     ensures empty { OnOk result ((view pass.new).missed ≡ (view pass.old).missed → share.new.blocks ≡ []) }

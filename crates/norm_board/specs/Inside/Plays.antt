@@ -5,7 +5,7 @@ use Rattle.lift_core.specs.declared.Tool.TheVariants.{Hilbert}
 use Rattle.lift_core.specs.Times.{times, once_below, AllUnder}
 use Rattle.stage_store.specs.Stage.{StageValue}
 use Rattle.norm_board.specs.Books.{BookValue}
-use Rattle.norm_board.specs.Rule.{S, gained, finished, taking, missing, giving, Finds}
+use Rattle.norm_board.specs.Rule.{S, gained, finished, taking, missing, giving, KnowsBook}
 use Rattle.norm_board.specs.declared.rule.Plan.{Plan}
 use Rattle.norm_board.specs.declared.rule.View.{View}
 
@@ -24,7 +24,7 @@ looked st m n m' =
 
 abbrev pub took : Step S → Me S View → ℕ → Me S View → Type 0
 took st m n m' =
-    (n ≡ 0 → (b : BookValue) × (m' ≡ (taking m.0 b.blocks, (0, Some b) ∷ m.1)) × Finds m.0 b)
+    (n ≡ 0 → (b : BookValue) × (m' ≡ (taking m.0 b.blocks, (0, Some b) ∷ m.1)) × KnowsBook m.0 b)
     × (n ≢ 0 → (m' ≡ (missing m.0, m.1)) × (m.0.weight < m.0.plan.passes))
 
 abbrev pub gave : Step S → Me S View → ℕ → Me S View → Type 0

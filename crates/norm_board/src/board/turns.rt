@@ -1,7 +1,7 @@
 //! The steps on the turn.
 
 ghost use Rattle.std.specs.Prelude.{◌≡◌, ◌<◌, true, false, [], IfSome, IfNone};
-ghost use Rattle.norm_board.specs.Rule.{taking, missing, giving, MayGive, Finds, IsBookOf};
+ghost use Rattle.norm_board.specs.Rule.{taking, missing, giving, MayGive, KnowsBook, IsBookOf};
 ghost use Rattle.norm_board.specs.Seen.{view, Belongs};
 
 use super::Board;
@@ -17,7 +17,7 @@ impl<'s> Board<'s> {
         requires free { (view pass.old).holding ≡ false }
         ensures same { Belongs self.now pass.new }
         ensures clean { (view pass.old).found ≡ [] }
-        ensures some { IfSome result (λ t. (view pass.new ≡ taking (view pass.old) t.blocks) × Finds (view pass.old) t) }
+        ensures some { IfSome result (λ t. (view pass.new ≡ taking (view pass.old) t.blocks) × KnowsBook (view pass.old) t) }
         ensures none { IfNone result ((view pass.new ≡ missing (view pass.old)) × ((view pass.old).weight < self.now.plan.passes)) }
     {
         if self.table.shared.swap::<Take>(&mut pass.seat, 1, 1) != 0 {

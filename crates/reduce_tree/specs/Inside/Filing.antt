@@ -4,7 +4,7 @@ use Rattle.std.specs.List.{AllByRecursion, filter}
 use Rattle.reduce_tree.specs.declared.index.Index.{Index}
 use Rattle.reduce_tree.specs.declared.items.Key.{Key}
 use Rattle.reduce_tree.specs.declared.tree.Filed.{Filed}
-use Rattle.reduce_tree.specs.Inside.Tiers.{IsStep, kid_at, KeepsSteps}
+use Rattle.reduce_tree.specs.Inside.Tiers.{HasKidAt, kid_at, KeepsSteps}
 
 abbrev pub second_of : Index → Key → ℕ
 second_of index key = kid_at index.first key.part key.first
@@ -13,10 +13,10 @@ abbrev pub third_of : Index → Key → ℕ
 third_of index key = kid_at index.second (second_of index key) key.second
 
 -- from the branch of its part, the classes of a key lead to the bucket b
-pub record Leads (index : Index) (key : Key) (b : ℕ) : Type 0 where
-  pub first : IsStep index.first key.part key.first
-  pub second : IsStep index.second (second_of index key) key.second
-  pub third : IsStep index.third (third_of index key) key.third
+pub record LeadsToBucket (index : Index) (key : Key) (b : ℕ) : Type 0 where
+  pub first : HasKidAt index.first key.part key.first
+  pub second : HasKidAt index.second (second_of index key) key.second
+  pub third : HasKidAt index.third (third_of index key) key.third
   pub bucket : kid_at index.third (third_of index key) key.third ≡ b
 
 -- what stands in bucket b, and nothing where there is no such bucket
@@ -44,5 +44,5 @@ pub record IsTree (width levels : ℕ) (filed : List Filed) (index : Index) : Ty
   pub few_levels : levels ≤ 16
   pub few : length filed < 4294967296
   pub inside : AllByRecursion (λ f. f.bucket < bucket_count index) filed
-  pub leads : AllByRecursion (λ f. Leads index f.key f.bucket) filed
+  pub leads : AllByRecursion (λ f. LeadsToBucket index f.key f.bucket) filed
   pub contents : (b : ℕ) → bucket_at index b ≡ in_bucket b filed

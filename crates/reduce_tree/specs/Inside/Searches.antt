@@ -6,7 +6,7 @@ use Rattle.reduce_tree.specs.declared.bounds.Bounds.{Bounds}
 use Rattle.reduce_tree.specs.declared.index.Index.{Index}
 use Rattle.reduce_tree.specs.Inside.Buckets.{IsMarked, AreNoneBelow, IsBelowAt}
 use Rattle.reduce_tree.specs.Inside.Filing.{bucket_at, bucket_count}
-use Rattle.reduce_tree.specs.Inside.Tiers.{BranchValue, IsStep, kid_at}
+use Rattle.reduce_tree.specs.Inside.Tiers.{BranchValue, HasKidAt, kid_at}
 
 abbrev pub AreAllMarked : Index → List (List ℤ) → List ℤ → Bounds → Type 0
 AreAllMarked index rows z bounds =
@@ -14,7 +14,7 @@ AreAllMarked index rows z bounds =
 
 -- a fact on numbers holds of the kids of a branch whose classes are among some
 abbrev pub AllKids : List BranchValue → ℕ → (ℕ → Type 0) → ℕ → Type 0
-AllKids tier classes P n = (c : ℕ) → bit_at classes c ≡ 1 → IsStep tier n c → P (kid_at tier n c)
+AllKids tier classes P n = (c : ℕ) → bit_at classes c ≡ 1 → HasKidAt tier n c → P (kid_at tier n c)
 
 -- no row of bucket b is below z
 abbrev pub HasNoneIn : Index → List (List ℤ) → List ℤ → Bounds → ℕ → Type 0
@@ -40,6 +40,6 @@ IsBelowIn index rows z bounds id =
     (b : ℕ) × (b < bucket_count index) × IsBelowAt (bucket_at index b) rows z bounds id
 
 -- a fact on numbers holds of the kids of a branch whose classes are among some, but for those that are left
-abbrev pub IsLeft : List BranchValue → ℕ → ℕ → (ℕ → Type 0) → ℕ → Type 0
-IsLeft tier classes rest P n =
-    (c : ℕ) → bit_at classes c ≡ 1 → IsStep tier n c → (bit_at rest c ≡ 1) ⊎ P (kid_at tier n c)
+abbrev pub HoldsOfSearched : List BranchValue → ℕ → ℕ → (ℕ → Type 0) → ℕ → Type 0
+HoldsOfSearched tier classes rest P n =
+    (c : ℕ) → bit_at classes c ≡ 1 → HasKidAt tier n c → (bit_at rest c ≡ 1) ⊎ P (kid_at tier n c)

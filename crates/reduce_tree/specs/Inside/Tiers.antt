@@ -25,12 +25,12 @@ abbrev pub branch_at : List BranchValue → ℕ → BranchValue
 branch_at tier n = slice_index_or tier n empty_branch
 
 -- branch n has a kid of this class
-abbrev pub IsStep : List BranchValue → ℕ → ℕ → Type 0
-IsStep tier n c = (n < length tier) × IsKid (branch_at tier n) c
+abbrev pub HasKidAt : List BranchValue → ℕ → ℕ → Type 0
+HasKidAt tier n c = (n < length tier) × IsKid (branch_at tier n) c
 
 abbrev pub kid_at : List BranchValue → ℕ → ℕ → ℕ
 kid_at tier n c = kid_of (branch_at tier n) c
 
 -- each kid of each branch stays
 abbrev pub KeepsSteps : List BranchValue → List BranchValue → Type 0
-KeepsSteps old new = (n c : ℕ) → IsStep old n c → IsStep new n c × (kid_at new n c ≡ kid_at old n c)
+KeepsSteps old new = (n c : ℕ) → HasKidAt old n c → HasKidAt new n c × (kid_at new n c ≡ kid_at old n c)

@@ -15,7 +15,7 @@ use Rattle.restart_file.specs.declared.dues.Due.TheVariants.{FirstLine, SystemLi
 use Rattle.restart_file.specs.declared.ends.RestartEnd.{RestartEnd}
 use Rattle.restart_file.specs.declared.ends.RestartEnd.TheVariants.{Bad, Failed, Memory}
 use Rattle.restart_file.specs.Texts.{Progress, system_lines}
-use Rattle.restart_file.specs.Reading.{Cursor, Follows, HasFault, HasNoStageRow, IsPlace, IsRow, Reads, at}
+use Rattle.restart_file.specs.Reading.{Cursor, Follows, HasFault, HasNoStageRow, IsStagePlace, IsRow, ReadsToEnd, at}
 
 abbrev pub progress_in : Draft → Progress
 progress_in d = record { number = d.number; norm = d.norm; used = d.used; listed = d.listed.rows; waiting = d.waiting.rows }
@@ -80,9 +80,9 @@ IsDue S v (WaitingRow n) = 0 < n
 IsDue S v LastLine = ⊤
 
 -- what is true of all that was read
-pub record IsSound (S : ToolSystem) (c : Cursor) : Type 0 where
+pub record IsTrueSoFar (S : ToolSystem) (c : Cursor) : Type 0 where
   pub due : IsDue S c.version c.due
-  pub place : is_placed c.due ≡ true → IsPlace S c.so_far.number c.so_far.norm
+  pub place : is_placed c.due ≡ true → IsStagePlace S c.so_far.number c.so_far.norm
   pub used : c.so_far.used ≤ 2 ^ 62
   pub listed_room : length c.so_far.listed + listed_left c.due ≤ 2 ^ 21
   pub waiting_room : length c.so_far.waiting + waiting_left c.due ≤ 2 ^ 21
@@ -100,12 +100,12 @@ IsFound S k line z NoSolution = IsRow S line z × (IsStageRow S.equations k z �
 IsFound S k line z StageRow = IsRow S line z × IsStageRow S.equations k z
 
 -- the line is right and leads to the cursor, or it has the fault
-abbrev pub Steps : {T : Type 0} → ToolSystem → Version → Due → Progress → List ℕ → ℕ → Cursor
+abbrev pub TakesLine : {T : Type 0} → ToolSystem → Version → Due → Progress → List ℕ → ℕ → Cursor
     → Result T RestartEnd → Type 0
-Steps S v due p line l next (Ok t) = Follows S v due p line next
-Steps S v due p line l next (Err (Bad f)) = HasFault S v due p line l f
-Steps S v due p line l next (Err Failed) = ⊥
-Steps S v due p line l next (Err Memory) = ⊤
+TakesLine S v due p line l next (Ok t) = Follows S v due p line next
+TakesLine S v due p line l next (Err (Bad f)) = HasFault S v due p line l f
+TakesLine S v due p line l next (Err Failed) = ⊥
+TakesLine S v due p line l next (Err Memory) = ⊤
 
 -- the entries are those of a row of the stage in the line, or the line has the fault
 abbrev pub RowSteps : {T : Type 0} → ToolSystem → ℕ → List ℕ → ℕ → List ℤ → Result T RestartEnd
@@ -117,7 +117,7 @@ RowSteps S k line l z (Err Memory) = ⊤
 
 -- what the bytes are read to
 abbrev pub ReadsTo : ToolSystem → Cursor → ℕ → List ℕ → Result Draft RestartEnd → Type 0
-ReadsTo S c l bytes (Ok d) = Reads S c l bytes (Ok (progress_in d))
-ReadsTo S c l bytes (Err (Bad f)) = Reads S c l bytes (Err f)
+ReadsTo S c l bytes (Ok d) = ReadsToEnd S c l bytes (Ok (progress_in d))
+ReadsTo S c l bytes (Err (Bad f)) = ReadsToEnd S c l bytes (Err f)
 ReadsTo S c l bytes (Err Failed) = ⊤
 ReadsTo S c l bytes (Err Memory) = ⊤

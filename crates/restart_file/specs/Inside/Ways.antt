@@ -10,28 +10,28 @@ use Rattle.restart_file.specs.declared.ends.RestartEnd.TheVariants.{Bad, Failed,
 use Rattle.restart_file.specs.declared.ends.RestartFault.{RestartFault}
 use Rattle.restart_file.specs.declared.windows.Window.{Window}
 use Rattle.restart_file.specs.Texts.{Progress, progress_of}
-use Rattle.restart_file.specs.Reading.{Cursor, Reads, start}
-use Rattle.restart_file.specs.Inside.Drafts.{HasWidths, IsSound, cursor_of, progress_in}
-use Rattle.restart_file.specs.Inside.Windows.{IsLeft}
+use Rattle.restart_file.specs.Reading.{Cursor, ReadsToEnd, start}
+use Rattle.restart_file.specs.Inside.Drafts.{HasWidths, IsTrueSoFar, cursor_of, progress_in}
+use Rattle.restart_file.specs.Inside.Windows.{IsTextLeft}
 
 -- what is read from a cursor on in line l is what was to be read
 abbrev pub LeadsTo : ToolSystem → Cursor → ℕ → List ℕ → Cursor → ℕ → List ℕ → Type 0
 LeadsTo S c l bytes next m rest =
-    (out : Result Progress RestartFault) → Reads S next m rest out → Reads S c l bytes out
+    (out : Result Progress RestartFault) → ReadsToEnd S next m rest out → ReadsToEnd S c l bytes out
 
 -- a line was read, and it is right
-pub record IsRead (S : ToolSystem) (text rest : List ℕ) (w : Window) (c next : Cursor) (l : ℕ)
+pub record IsLineRead (S : ToolSystem) (text rest : List ℕ) (w : Window) (c next : Cursor) (l : ℕ)
     : Type 0 where
   pub others : List ℕ
-  pub left : IsLeft text w others
+  pub left : IsTextLeft text w others
   pub fewer : length others < length rest
   pub leads : LeadsTo S c l rest next (l + 1) others
 
 -- a line was read, or it has the first fault
 abbrev pub ReadsLine : {T : Type 0} → ToolSystem → List ℕ → List ℕ → Window → Cursor → Cursor → ℕ
     → Result T RestartEnd → Type 0
-ReadsLine S text rest w c next l (Ok t) = IsRead S text rest w c next l
-ReadsLine S text rest w c next l (Err (Bad f)) = Reads S c l rest (Err f)
+ReadsLine S text rest w c next l (Ok t) = IsLineRead S text rest w c next l
+ReadsLine S text rest w c next l (Err (Bad f)) = ReadsToEnd S c l rest (Err f)
 ReadsLine S text rest w c next l (Err Failed) = ⊤
 ReadsLine S text rest w c next l (Err Memory) = ⊤
 
@@ -39,13 +39,13 @@ ReadsLine S text rest w c next l (Err Memory) = ⊤
 pub record IsOnTheWay (S : ToolSystem) (text : List ℕ) (w : Window) (c : Cursor) (l turns : ℕ)
     : Type 0 where
   pub rest : List ℕ
-  pub left : IsLeft text w rest
+  pub left : IsTextLeft text w rest
   pub fewer : length rest + turns ≤ length text
   pub leads : LeadsTo S start 1 text c l rest
 
 -- all was read
-pub record IsWhole (S : ToolSystem) (d : Draft) : Type 0 where
-  pub sound : IsSound S (cursor_of d)
+pub record IsAllRead (S : ToolSystem) (d : Draft) : Type 0 where
+  pub sound : IsTrueSoFar S (cursor_of d)
   pub widths : HasWidths S d
   pub last : d.due ≡ LastLine
   pub enough : pairs_within d.listed.rows d.norm ≤ d.used

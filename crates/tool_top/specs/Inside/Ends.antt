@@ -28,7 +28,7 @@ use Rattle.tool_top.specs.declared.ends.End.TheVariants.{Done, Usage, BadRestart
 use Rattle.tool_top.specs.declared.ends.Totals.{Totals}
 use Rattle.tool_top.specs.Names.{file_name}
 use Rattle.tool_top.specs.Plan.{Plan, part_of, part_of_slot, answer_of, project_of}
-use Rattle.tool_top.specs.Expected.{ComesTo}
+use Rattle.tool_top.specs.Expected.{IsExpectedOr}
 use Rattle.tool_top.specs.Left.{Traces, Leaves}
 
 -- a refusal of this file
@@ -85,7 +85,7 @@ end_of (Err end) = end
 
 -- the end is the one that comes, and this is what it leaves
 pub record Ends (plan : Result Plan End) (t : Traces) (end : End) : Type 0 where
-  pub comes : ComesTo plan end
+  pub comes : IsExpectedOr plan end
   pub leaves : Leaves plan t end
 
 -- a fault is answered only where the count rose

@@ -19,7 +19,7 @@ use Rattle.tool_top.specs.declared.ends.End.TheVariants.{Outside, Memory}
 use Rattle.tool_top.specs.declared.ends.Totals.{Totals}
 use Rattle.tool_top.specs.declared.outputs.Output.{Output}
 use Rattle.tool_top.specs.declared.outputs.Outputs.{Outputs}
-use Rattle.tool_top.specs.Outputs.{OutputFile, file_of, rows_in, norms_in}
+use Rattle.tool_top.specs.Outputs.{OutputFile, file_of, total_rows, norms_in}
 use Rattle.outside.specs.Pieces.{MayPut}
 use Rattle.tool_top.specs.Summary.{summary_of}
 use Rattle.tool_top.specs.Left.{IsCutAt}
@@ -67,7 +67,7 @@ CutsTo project outputs old new end = ⊥
 
 -- the summary of outputs that are written was put
 pub record IsTold (job : Job) (outputs : List OutputFile) (used : ℕ) (old new : Option (List ℕ)) (totals : Totals) : Type 0 where
-  pub solutions_are : totals.solutions ≡ rows_in outputs
+  pub solutions_are : totals.solutions ≡ total_rows outputs
   pub pairs_are : totals.pairs ≡ used
   pub norms_are : totals.norm_total ≡ norms_in outputs
   pub out : new ≡ append_known old (summary_of job totals.solutions totals.pairs totals.norm_total)
@@ -75,9 +75,9 @@ pub record IsTold (job : Job) (outputs : List OutputFile) (used : ℕ) (old new 
 -- a prefix of it was put, and the end says why
 abbrev pub IsCutShort : Job → List OutputFile → ℕ → Option (List ℕ) → Option (List ℕ) → End → Type 0
 IsCutShort job outputs used old new (Outside part) =
-    (part ≡ Out) × MayPut (summary_of job (rows_in outputs) used (norms_in outputs)) old new
+    (part ≡ Out) × MayPut (summary_of job (total_rows outputs) used (norms_in outputs)) old new
 IsCutShort job outputs used old new Memory =
-    MayPut (summary_of job (rows_in outputs) used (norms_in outputs)) old new
+    MayPut (summary_of job (total_rows outputs) used (norms_in outputs)) old new
 IsCutShort job outputs used old new end = ⊥
 
 abbrev pub TellsOf : Job → List OutputFile → ℕ → Option (List ℕ) → Option (List ℕ)

@@ -61,10 +61,10 @@ seen t = record {
 }
 
 -- the number of an option, or usage
-abbrev pub IsNumberOf : ℕ → ℕ → Option (List ℕ) → Result (Option ℕ) WordEnd → Type 0
-IsNumberOf least most text (Ok n) =
+abbrev pub IsOptionNumber : ℕ → ℕ → Option (List ℕ) → Result (Option ℕ) WordEnd → Type 0
+IsOptionNumber least most text (Ok n) =
     (number_of least most text ≡ Some n) × IfSome n (λ x. (least ≤ x) × (x ≤ most))
-IsNumberOf least most text (Err end) = (number_of least most text ≡ None) × (end ≡ Usage)
+IsOptionNumber least most text (Err end) = (number_of least most text ≡ None) × (end ≡ Usage)
 
 -- the job of the texts, or usage
 abbrev pub MakesJob : Texts → Result Job WordEnd → Type 0

@@ -13,8 +13,8 @@ IsReady b w = IsWorker b w.pass w.share
 abbrev pub IsEmpty : Worker → Type 0
 IsEmpty w = w.share.blocks ≡ []
 
-abbrev pub weight_of : Worker → ℕ
-weight_of w = (view w.pass).weight
+abbrev pub worker_weight : Worker → ℕ
+worker_weight w = (view w.pass).weight
 
 abbrev pub missed_of : Worker → ℕ
 missed_of w = (view w.pass).missed
@@ -22,7 +22,7 @@ missed_of w = (view w.pass).missed
 -- what its part has left of it
 pub record HasEnded (b : Board) (w x : Worker) : Type 0 where
   pub still : IsReady b x
-  pub weight : weight_of x ≡ weight_of w
+  pub weight : worker_weight x ≡ worker_weight w
   pub done : x.failed ≡ false → (view x.pass).done ≡ true
   pub missed : missed_of w ≤ missed_of x
   pub empty : x.failed ≡ false → missed_of x ≡ missed_of w → IsEmpty x

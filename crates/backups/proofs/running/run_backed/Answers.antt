@@ -7,7 +7,7 @@ use Rattle.lift_core.specs.Ends.{End}
 use Rattle.lift_run.specs.Runs.{bounds, end_of}
 use Rattle.backups.specs.declared.keeper.BackupState.{BackupState}
 use Rattle.backups.specs.declared.starts.Slot.{Slot}
-use Rattle.backups.specs.Starts.{name_of}
+use Rattle.backups.specs.Starts.{slot_name}
 use Rattle.backups.specs.Standing.{turns_from, LeavesFrom, came_to}
 use Rattle.backups.proofs.Leaving.{leaves_all, same_loan_all}
 use Rattle.backups.proofs.Coming.{came_of, stop_cause}
@@ -74,14 +74,14 @@ returns-clause-leaves g c =
     c.new-keep.ensures.interval.0 c.new-keep.ensures.interval.1 c.run-answer.ensures.kept in
     let same = c.folder-1.given.1 (sym c.new-keep.ensures.same_reference ∙ sym loan) in
     let came : came_to c.args.plan.first.now c.args.plan.second.now c.stopped_at.result ≡
-    ok_or (end_of c.run-answer.result) (name_of c.run-answer.new.keep.slot c.args.plan.first.now
+    ok_or (end_of c.run-answer.result) (slot_name c.run-answer.new.keep.slot c.args.plan.first.now
     c.args.plan.second.now) = came_of c.args.plan.first.now c.args.plan.second.now
     c.stopped_at.result c.run-answer.result c.next_slot.result c.stopped_at.ensures.ended
-    c.stopped_at.ensures.next ∙ ap (λ (k : Slot). ok_or (end_of c.run-answer.result) (name_of k
+    c.stopped_at.ensures.next ∙ ap (λ (k : Slot). ok_or (end_of c.run-answer.result) (slot_name k
     c.args.plan.first.now c.args.plan.second.now)) c.next_slot.ensures in
     let left : IfSome (g.F.Folder.held c.args.folder.now) (λ files. LeavesFrom (turns_from
     c.args.slot (Some c.args.interval) c.args.plan.first.now c.args.plan.second.now) (bounds
-    c.args.limits) c.args.from (ok_or (end_of c.run-answer.result) (name_of
+    c.args.limits) c.args.from (ok_or (end_of c.run-answer.result) (slot_name
     c.run-answer.new.keep.slot c.args.plan.first.now c.args.plan.second.now)) files (g.F.Folder.held
     c.run-answer.new.keep.folder.now)) =
     leaves_all (bounds c.args.limits) c.args.from c.run-answer.result old now (g.F.Folder.held
@@ -95,6 +95,6 @@ returns-clause-leaves g c =
     (sym came)
     (subst (λ (y : Option Files). IfSome (g.F.Folder.held c.args.folder.now) (λ files. LeavesFrom
     (turns_from c.args.slot (Some c.args.interval) c.args.plan.first.now c.args.plan.second.now)
-    (bounds c.args.limits) c.args.from (ok_or (end_of c.run-answer.result) (name_of
+    (bounds c.args.limits) c.args.from (ok_or (end_of c.run-answer.result) (slot_name
     c.run-answer.new.keep.slot c.args.plan.first.now c.args.plan.second.now)) files y))
     (ap g.F.Folder.held (sym same)) left)

@@ -2,8 +2,8 @@
 use Rattle.std.proofs.Common.{arith, rules, refl, sym, subst, ◌∙◌, ◌≡◌, ◌≢◌, ℕ, []}
 use Rattle.restart_file.specs.declared.dues.Due.TheVariants.{LastLine}
 use Rattle.restart_file.specs.Reading.{Cursor}
-use Rattle.restart_file.specs.Inside.Drafts.{IsSound, cursor_of}
-use Rattle.restart_file.specs.Inside.Windows.{Tells}
+use Rattle.restart_file.specs.Inside.Drafts.{IsTrueSoFar, cursor_of}
+use Rattle.restart_file.specs.Inside.Windows.{TellsText}
 use Rattle.restart_file.proofs.LineByLine.{handed_lines, none_left, way_end, way_fault, way_on, way_start}
 use Rattle.restart_file.proofs.Remainders.{tells_same}
 use Rattle.restart_file.proofs.Steps.{sound_start}
@@ -14,7 +14,7 @@ pub loop-turn-init : goal.loop-turn-init
 loop-turn-init g c = record {
   same = refl;
   later = omega arith;
-  sound = subst (λ (x : Cursor). IsSound c.args.system.now x) (sym c.empty_draft-draft.ensures.start) (sound_start c.args.system.now);
+  sound = subst (λ (x : Cursor). IsTrueSoFar c.args.system.now x) (sym c.empty_draft-draft.ensures.start) (sound_start c.args.system.now);
   widths = c.empty_draft-draft.ensures.widths;
   number = omega arith;
   way = λ text t e. way_start c.args.system.now text c.in_ok-window.window (cursor_of c.empty_draft-draft.result) c.empty_draft-draft.ensures.start (c.in_ok-window.ensures text e);
@@ -22,7 +22,7 @@ loop-turn-init g c = record {
 
 pub returns-in_err-read_line-clause-to : goal.returns-in_err-read_line-clause-to
 returns-in_err-read_line-clause-to g c = λ text t e.
-    let now : Tells (g.F.Folder.held c.loop-turn.folder) c.args.name.now text = tells_same (g.F.Folder.held c.args.folder.now) (g.F.Folder.held c.loop-turn.folder) c.args.name.now text c.loop-turn.invariant.same t in
+    let now : TellsText (g.F.Folder.held c.loop-turn.folder) c.args.name.now text = tells_same (g.F.Folder.held c.args.folder.now) (g.F.Folder.held c.loop-turn.folder) c.args.name.now text c.loop-turn.invariant.same t in
     handed_lines c.args.system.now text c.from_residual-in_err-read_line.result _ c.from_residual-in_err-read_line.ensures.1
     (way_fault c.args.system.now text c.loop-turn.window (cursor_of c.loop-turn.draft) c.loop-turn.l c.loop-turn._turn (c.loop-turn.invariant.way text t e) ℕ c.read_line.new.window (cursor_of c.read_line.new.draft) _ (λ rest left. c.in_err-read_line.ensures.line text rest now left))
 
@@ -34,7 +34,7 @@ loop-turn-preserved g c = record {
   widths = c.read_line.ensures.widths;
   number = omega (arith, c.loop-turn.invariant.number);
   way = λ text t e.
-      let now : Tells (g.F.Folder.held c.loop-turn.folder) c.args.name.now text = tells_same (g.F.Folder.held c.args.folder.now) (g.F.Folder.held c.loop-turn.folder) c.args.name.now text c.loop-turn.invariant.same t in
+      let now : TellsText (g.F.Folder.held c.loop-turn.folder) c.args.name.now text = tells_same (g.F.Folder.held c.args.folder.now) (g.F.Folder.held c.loop-turn.folder) c.args.name.now text c.loop-turn.invariant.same t in
       way_on c.args.system.now text c.loop-turn.window (cursor_of c.loop-turn.draft) c.loop-turn.l c.loop-turn._turn (c.loop-turn.invariant.way text t e) c.read_line.new.window (cursor_of c.read_line.new.draft) (λ rest left. c.in_ok-read_line.ensures.line text rest now left);
 }
 

@@ -2,7 +2,7 @@
 use Rattle.std.proofs.Common.{arith, inl, inr, ap, refl, sym, ◌∙◌, ◌≡◌, ◌-◌, ◌++◌, ◌∷◌, [], drop, List, ℕ}
 use Rattle.std.specs.Prelude.{codes}
 use Rattle.hex.specs.Hex.{encode_lower}
-use Rattle.restart_file.specs.Inside.Windows.{IsLeft, Tells}
+use Rattle.restart_file.specs.Inside.Windows.{IsTextLeft, TellsText}
 use Rattle.restart_file.proofs.Remainders.{tells_same}
 use Rattle.restart_file.proofs.Seals.{equal_seals, not_sealed, sealed_equal}
 use Rattle.restart_file.proofs.sealing.is_sealed.Goals as goal
@@ -15,9 +15,9 @@ returns-then-size-ge-TOO_LONG-clause-sealed g c = λ text t e. (λ q. cc, λ s. 
 
 pub returns-clause-sealed : goal.returns-clause-sealed
 returns-clause-sealed g c = λ text t e.
-    let begun : IsLeft text c.in_ok-window.window text = c.in_ok-window.ensures text e in
+    let begun : IsTextLeft text c.in_ok-window.window text = c.in_ok-window.ensures text e in
     let hashed = c.in_ok-digest.ensures.digest text t begun (omega (arith, e)) in
-    let now : Tells (g.F.Folder.held c.digest_of.new.folder) c.args.name.now text = tells_same (g.F.Folder.held c.args.folder.now) (g.F.Folder.held c.digest_of.new.folder) c.args.name.now text c.digest_of.ensures.same t in
+    let now : TellsText (g.F.Folder.held c.digest_of.new.folder) c.args.name.now text = tells_same (g.F.Folder.held c.args.folder.now) (g.F.Folder.held c.digest_of.new.folder) c.args.name.now text c.digest_of.ensures.same t in
     let tail = c.in_ok-next_bytes.ensures.bytes text (drop (c.args.size - 72) text) now hashed.1 in
     let wanted : c.push_digest.new.line.items ≡ codes "digest " ++ encode_lower c.in_ok-digest.digest ++ 10 ∷ [] =
     c.in_ok-push_digest.ensures ∙ ap (λ (front : List ℕ). front ++ (codes "digest " ++ encode_lower c.in_ok-digest.digest ++ 10 ∷ [])) c.new-wanted.ensures.items

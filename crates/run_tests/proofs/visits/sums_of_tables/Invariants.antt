@@ -1,5 +1,5 @@
 use Rattle.std.proofs.Common.{◌≡◌, ◌≤◌, length, All, vec_capacity}
-use Rattle.row_pool.specs.Rows.{InRange}
+use Rattle.int_vector.specs.Range.{InRange}
 use Rattle.run_tests.proofs.visits.sums_of_tables.Given as goal
 
 abbrev pub invariant-loop-i : goal.invariant-loop-i

@@ -1,6 +1,6 @@
 -- The rows so far are those taken in before and the first i of the pool, and each of them fits.
 use Rattle.std.proofs.Common.{◌∙◌, sym, ap, subst, length, ℤ, List, [], arith, All}
-use Rattle.row_pool.specs.Rows.{InRange}
+use Rattle.int_vector.specs.Range.{InRange}
 use Rattle.std.specs.Prelude.{slice_index_or}
 use Rattle.lift_core.specs.Inside.OrderedRows.{rows_behind}
 use Rattle.stage_store.proofs.Sorting.{pushed_behind, one_row_more, one_fit_more}

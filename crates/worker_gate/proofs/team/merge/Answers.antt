@@ -3,7 +3,7 @@ use Rattle.std.proofs.Common.{◌≡◌, ◌∙◌, ◌++◌, ◌∷◌, [], Lis
 use Rattle.std.proofs.lemmas.List.Elements.{All-pop, All-push}
 use Rattle.lift_core.specs.Times.{total_of}
 use Rattle.norm_board.proofs.Lists.{total-snoc}
-use Rattle.worker_gate.specs.Inside.Team.{IsEmpty, MayMerge, IsFine, weight_of, missed_of}
+use Rattle.worker_gate.specs.Inside.Team.{IsEmpty, MayMerge, IsFine, worker_weight, missed_of}
 use Rattle.worker_gate.proofs.team.merge.Goals as goal
 
 both_empty : (a b : List ℕ) → a ≡ [] → b ≡ [] → a ++ b ≡ []
@@ -13,9 +13,9 @@ pub loop-worker-init : goal.loop-worker-init
 loop-worker-init c =
     let e : c.args.team.items ≡ c.pop.new.self.items ++ c.in-Some.first ∷ [] = c.in-Some.ensures.items in
     let d = All-pop (MayMerge c.args.board.now) c.args.team.items c.pop.new.self.items (Some c.in-Some.first) e c.requires.done in
-    let w = total-snoc weight_of c.pop.new.self.items c.in-Some.first in
+    let w = total-snoc worker_weight c.pop.new.self.items c.in-Some.first in
     let m = total-snoc missed_of c.pop.new.self.items c.in-Some.first in
-    let tw = ap (total_of weight_of) e in
+    let tw = ap (total_of worker_weight) e in
     let tm = ap (total_of missed_of) e in
     record {
       ready = d.1.still;
@@ -44,9 +44,9 @@ loop-worker-preserved c =
     let k = c.in_ok-take_in.ensures in
     let e : c.loop-worker.team.items ≡ c.pop-in-loop-worker.new.self.items ++ c.in-Some-pop.worker ∷ [] = c.in-Some-pop.ensures.items in
     let d = All-pop (MayMerge c.args.board.now) c.loop-worker.team.items c.pop-in-loop-worker.new.self.items (Some c.in-Some-pop.worker) e v.rest in
-    let w = total-snoc weight_of c.pop-in-loop-worker.new.self.items c.in-Some-pop.worker in
+    let w = total-snoc worker_weight c.pop-in-loop-worker.new.self.items c.in-Some-pop.worker in
     let m = total-snoc missed_of c.pop-in-loop-worker.new.self.items c.in-Some-pop.worker in
-    let tw = ap (total_of weight_of) e in
+    let tw = ap (total_of worker_weight) e in
     let tm = ap (total_of missed_of) e in
     let kw = k.weight in
     let km = k.missed in

@@ -2,7 +2,7 @@
 use Rattle.std.proofs.Common.{◌≡◌, ◌≤◌, ◌+◌, false, [], All, vec_len, vec_capacity}
 use Rattle.lift_core.specs.Times.{total_of}
 use Rattle.norm_board.specs.Seen.{view, Belongs}
-use Rattle.worker_gate.specs.Inside.Team.{IsReady, IsEmpty, weight_of, missed_of}
+use Rattle.worker_gate.specs.Inside.Team.{IsReady, IsEmpty, worker_weight, missed_of}
 use Rattle.worker_gate.proofs.team.recruit_all.Given as goal
 
 abbrev pub invariant-loop-i : goal.invariant-loop-i
@@ -17,6 +17,6 @@ invariant-loop-i l = record {
   count : vec_len l.team + 1 ≡ l.i;
   ready : All (IsReady l.board) l.team.items;
   empty : All IsEmpty l.team.items;
-  weights : total_of weight_of l.team.items + 1 ≡ l.i;
+  weights : total_of worker_weight l.team.items + 1 ≡ l.i;
   missing : total_of missed_of l.team.items ≡ 0;
 }

@@ -2,7 +2,7 @@
 use Rattle.std.proofs.Common.{◌≡◌, ◌≤◌, ◌<◌, ◌-◌}
 use Rattle.lift_core.specs.Times.{times}
 use Rattle.norm_board.specs.Seen.{view}
-use Rattle.worker_gate.specs.Work.{IsWorker, HasGained}
+use Rattle.worker_gate.specs.Work.{IsWorker, KeepsBlocks}
 use Rattle.worker_gate.proofs.worker.work.Given as goal
 
 abbrev pub invariant-loop-share : goal.invariant-loop-share
@@ -10,7 +10,7 @@ invariant-loop-share g l = record {
   worker : IsWorker l.board l.pass l.share;
   weight : (view l.pass).weight ≡ (view l.fn.pass).weight;
   missed : (view l.fn.pass).missed ≤ (view l.pass).missed;
-  gained : HasGained (view l.fn.pass) (view l.pass);
+  gained : KeepsBlocks (view l.fn.pass) (view l.pass);
   last : 0 < l.least → 0 < times (l.least - 1) (view l.pass).drawn;
   fits : l.least ≤ l.board.plan.blocks;
 }

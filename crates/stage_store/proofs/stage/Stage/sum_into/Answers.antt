@@ -2,7 +2,7 @@
 -- is in range.
 use Rattle.std.proofs.Common.{◌≡◌, ◌∙◌, arith, length, refl, ap, ◌≤◌, ◌+◌, get_or}
 use Rattle.std.proofs.lemmas.List.Elements.{All-get_or}
-use Rattle.row_pool.specs.Rows.{InRange}
+use Rattle.int_vector.specs.Range.{InRange}
 use Rattle.std.specs.Prelude.{pos, nat_abs}
 use Rattle.stage_store.specs.Stage.{row_of, equations_of}
 use Rattle.stage_store.proofs.Sums.{has_no_sum, no_sum_by_caps, has_sum, pair_fits, sum_in_range}
