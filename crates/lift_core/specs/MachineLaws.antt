@@ -11,19 +11,23 @@ use Rattle.lift_core.specs.declared.machine.Event.{Event}
 -- each number below the next one is in the book or with one pass, once, and no other number is
 abbrev pub EachNumberOnce : Type 0
 EachNumberOnce =
-    (blocks passes : ℕ) (events : List Event) (s : CoreState) → Runs (core_start blocks passes) events s
+    (blocks passes : ℕ) (events : List Event) (s : CoreState)
+    → Runs (core_start blocks passes) events s
     → (n : ℕ) → times n s.book + total_of (times n) s.held ≡ once_below n s.next
 
 -- in the book of a closed machine each number of a block stands exactly once and no other does, whatever the order of events
 abbrev pub EachBlockOnce : Type 0
 EachBlockOnce =
-    (blocks passes : ℕ) (events : List Event) (s : CoreState) → Runs (core_start blocks passes) events s → s.closed ≡ true
+    (blocks passes : ℕ) (events : List Event) (s : CoreState)
+    → Runs (core_start blocks passes) events s → s.closed ≡ true
     → (n : ℕ) → times n s.book ≡ once_below n blocks
 
 -- so the sums of the book's blocks are all irreducible sums of the norm
 abbrev pub BookHasAllSums : Type 0
 BookHasAllSums =
-    (S : LinearSystem) (listed : List (List ℤ)) (e : ℕ) (pairs : List (List ℤ × List ℤ)) → AreNumbered listed e pairs
+    (S : LinearSystem) (listed : List (List ℤ)) (e : ℕ) (pairs : List (List ℤ × List ℤ))
+    → AreNumbered listed e pairs
     → (blocks passes : ℕ) (events : List Event) (s : CoreState)
     → length pairs ≤ 256 * blocks → Runs (core_start blocks passes) events s → s.closed ≡ true
-    → (rows : List (List ℤ)) → IsSumsOf S listed pairs s.book rows → IsListOf norm_cmp (IsNewSum S listed e) rows
+    → (rows : List (List ℤ)) → IsSumsOf S listed pairs s.book rows
+    → IsListOf norm_cmp (IsNewSum S listed e) rows

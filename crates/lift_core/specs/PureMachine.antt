@@ -21,7 +21,8 @@ pub record CoreState : Type 0 where
 
 -- before the first event
 abbrev pub core_start : ℕ → ℕ → CoreState
-core_start blocks passes = record { blocks = blocks; next = 0; held = replicate passes []; book = []; closed = false }
+core_start blocks passes =
+    record { blocks = blocks; next = 0; held = replicate passes []; book = []; closed = false }
 
 -- what the pass holds
 abbrev pub held_at : CoreState → ℕ → List ℕ
@@ -38,7 +39,8 @@ MayCome s (Put p) = (s.closed ≡ false) × (p < length s.held)
 MayCome s Close = (s.closed ≡ false) × HasAllBlocks s.book s.blocks
 
 abbrev pub after_draw : CoreState → ℕ → CoreState
-after_draw s p = record s { next = s.next + 1; held = slice_set s.held p (held_at s p ++ (s.next ∷ [])) }
+after_draw s p =
+    record s { next = s.next + 1; held = slice_set s.held p (held_at s p ++ (s.next ∷ [])) }
 
 abbrev pub after_put : CoreState → ℕ → CoreState
 after_put s p = record s { held = slice_set s.held p []; book = s.book ++ held_at s p }
@@ -52,7 +54,8 @@ after s Close = record s { closed = true }
 -- the events, each allowed where it comes, lead from one state to the other
 pub data Runs : CoreState → List Event → CoreState → Type 0 where
   no_event : {s : CoreState} → Runs s [] s
-  one_event : {s t : CoreState} {e : Event} {es : List Event} → MayCome s e → Runs (after s e) es t → Runs s (e ∷ es) t
+  one_event : {s t : CoreState} {e : Event} {es : List Event} → MayCome s e → Runs (after s e) es t
+      → Runs s (e ∷ es) t
 
 -- ---- what the calls answer
 -- one event is done, or nothing has changed
@@ -67,7 +70,8 @@ IsRefused s e NotAllowed = MayCome s e → ⊥
 IsRefused s e Memory = Unit {0}
 
 -- the events before place i are done, and the one there is refused
-pub record StopsAt (s : CoreState) (es : List Event) (t : CoreState) (i : ℕ) (end : StepEnd) : Type 0 where
+pub record StopsAt (s : CoreState) (es : List Event) (t : CoreState) (i : ℕ)
+    (end : StepEnd) : Type 0 where
   pub inside : i < length es
   pub before : Runs s (take i es) t
   pub refused : IsRefused t (slice_index_or es i Close) end
@@ -80,10 +84,12 @@ RunsOr s es t (Err (i, end)) = StopsAt s es t i end
 -- ---- blocks of pairs
 -- the pairs of norm e, each at one place or more, which is its number
 abbrev pub AreNumbered : List (List ℤ) → ℕ → List (List ℤ × List ℤ) → Type 0
-AreNumbered listed e pairs = (f g : List ℤ) → Contains pairs (f, g) ↔ (IsPair listed f g × (stage_norm f + stage_norm g ≡ e))
+AreNumbered listed e pairs =
+    (f g : List ℤ) → Contains pairs (f, g) ↔ (IsPair listed f g × (stage_norm f + stage_norm g ≡ e))
 
 -- z is the irreducible sum of a pair of the block: block b has the pairs from number 256 b on, 256 of them or the rest
-pub record IsSumInBlock (S : LinearSystem) (listed : List (List ℤ)) (pairs : List (List ℤ × List ℤ)) (block : ℕ) (z : List ℤ) : Type 0 where
+pub record IsSumInBlock (S : LinearSystem) (listed : List (List ℤ)) (pairs : List (List ℤ × List ℤ))
+    (block : ℕ) (z : List ℤ) : Type 0 where
   pub number : ℕ
   pub from : 256 * block ≤ number
   pub before : number < 256 * block + 256
@@ -96,5 +102,7 @@ pub record IsSumInBlock (S : LinearSystem) (listed : List (List ℤ)) (pairs : L
   pub irreducible : IsIrreducible listed z
 
 -- the ascending list of the irreducible sums of the pairs in the blocks
-abbrev pub IsSumsOf : LinearSystem → List (List ℤ) → List (List ℤ × List ℤ) → List ℕ → List (List ℤ) → Type 0
-IsSumsOf S listed pairs blocks rows = IsListOf norm_cmp (λ z. (b : ℕ) × Contains blocks b × IsSumInBlock S listed pairs b z) rows
+abbrev pub IsSumsOf : LinearSystem → List (List ℤ) → List (List ℤ × List ℤ) → List ℕ → List (List ℤ)
+    → Type 0
+IsSumsOf S listed pairs blocks rows =
+    IsListOf norm_cmp (λ z. (b : ℕ) × Contains blocks b × IsSumInBlock S listed pairs b z) rows

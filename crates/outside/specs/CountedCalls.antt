@@ -45,7 +45,8 @@ pub record CountedFiles : Type 0 where
 abbrev pub call_count_code : Coded CallCount
 call_count_code =
     code_by (List ℕ × (ℕ × ℕ)) (coded× (coded_list coded_ℕ) (coded× coded_ℕ coded_ℕ))
-    (λ t. (t.fail, (t.calls, t.faults))) (λ p. record { fail = p.0; calls = p.1.0; faults = p.1.1 }) (λ _. refl)
+    (λ t. (t.fail, (t.calls, t.faults)))
+    (λ p. record { fail = p.0; calls = p.1.0; faults = p.1.1 }) (λ _. refl)
 
 abbrev pub counted_files_code : Coded CountedFiles
 counted_files_code =

@@ -9,7 +9,8 @@ use Rattle.outside.specs.declared.ends.ReadEnd.TheVariants.{Failed, TooLong, Mem
 abbrev pub ReadsFile : ℕ → Option (List ℕ) → Result (Option (Vec ℕ)) ReadEnd → Type 0
 ReadsFile limit file (Ok None) = file ≡ None
 ReadsFile limit file (Ok (Some v)) = (file ≡ Some v.items) × (length v.items ≤ limit)
-ReadsFile limit file (Err (TooLong len)) = (bytes : List ℕ) × (file ≡ Some bytes) × (len ≡ length bytes) × (limit < len)
+ReadsFile limit file (Err (TooLong len)) =
+    (bytes : List ℕ) × (file ≡ Some bytes) × (len ≡ length bytes) × (limit < len)
 ReadsFile limit file (Err Failed) = Unit {0}
 ReadsFile limit file (Err Memory) = Unit {0}
 

@@ -88,7 +88,8 @@ impl MemFolder {
     /// Leaves the file of this name with these bytes, and all others as before. After a refusal all
     /// files are as before. It is no counted call.
     pub fn insert(&mut self, name: &str, bytes: &[u8]) -> Result<(), AllocError>
-        ensures ok { OnOk result (self.new ≡ record self.old { files = insert self.old.files name.now bytes.now }) }
+        ensures ok { OnOk result
+            (self.new ≡ record self.old { files = insert self.old.files name.now bytes.now }) }
         ensures err { OnErr result (self.new ≡ self.old) }
     {
         self.files.insert(name, bytes)
@@ -137,7 +138,8 @@ impl Folder for MemFolder {
     fn read(&mut self, name: &str, at: u64, buf: &mut [u8]) -> Result<usize, PutEnd>
         ensures same { self.new.files ≡ self.old.files }
         ensures bound { ReadsAtMost result buf.new }
-        ensures bytes { IfOk result (λ n. ReadsFrom (bytes_of self.old.files name.now) at n buf.new) }
+        ensures bytes { IfOk result
+            (λ n. ReadsFrom (bytes_of self.old.files name.now) at n buf.new) }
         ensures refused { OnErr result (buf.new ≡ buf.old) }
         ensures counted { self.new.count ≡ one_more_call self.old.count }
         ensures listed { FailsNext self.old.count → result ≡ Err PutEnd.Failed }
@@ -170,7 +172,8 @@ impl Folder for MemFolder {
     /// after `Memory` none. A listed call is refused.
     fn append(&mut self, name: &str, bytes: &[u8]) -> Result<(), PutEnd>
         ensures done { OnOk result (self.new.files ≡ appended name.now bytes.now self.old.files) }
-        ensures half { result ≡ Err PutEnd.Failed → self.new.files ≡ appended name.now (half bytes.now) self.old.files }
+        ensures half { result ≡ Err PutEnd.Failed
+            → self.new.files ≡ appended name.now (half bytes.now) self.old.files }
         ensures none { result ≡ Err PutEnd.Memory → self.new.files ≡ self.old.files }
         ensures counted { self.new.count ≡ one_more_call self.old.count }
         ensures listed { FailsNext self.old.count → IsErr result }
@@ -230,7 +233,8 @@ impl Sink for MemSink {
     /// `Memory` none. A listed call is refused.
     fn put(&mut self, bytes: &[u8]) -> Result<(), PutEnd>
         ensures done { OnOk result (self.new.bytes ≡ self.old.bytes ++ bytes.now) }
-        ensures half { result ≡ Err PutEnd.Failed → self.new.bytes ≡ self.old.bytes ++ half bytes.now }
+        ensures half { result ≡ Err PutEnd.Failed
+            → self.new.bytes ≡ self.old.bytes ++ half bytes.now }
         ensures none { result ≡ Err PutEnd.Memory → self.new.bytes ≡ self.old.bytes }
         ensures counted { self.new.count ≡ one_more_call self.old.count }
         ensures listed { FailsNext self.old.count → IsErr result }

@@ -21,8 +21,11 @@ fn read_more<F: Folder>(
 ) -> Result<bool, PutEnd>
     requires { 0 < length room.old }
     ensures same { F.held folder.new ≡ F.held folder.old }
-    ensures more { IfSome (F.held folder.old) (λ files. IfOk result (ReadsMore (bytes_of files name.now) bytes.old.items bytes.new.items)) }
-    ensures within { OnOk result (length bytes.new.items ≤ length bytes.old.items + length room.old) }
+    ensures more { IfSome (F.held folder.old)
+        (λ files. IfOk result
+        (ReadsMore (bytes_of files name.now) bytes.old.items bytes.new.items)) }
+    ensures within { OnOk result
+        (length bytes.new.items ≤ length bytes.old.items + length room.old) }
     ensures cause { HasCause (F.faults folder.old) (F.faults folder.new) result }
 {
     let at = bytes.as_slice().len() as u64;
@@ -72,7 +75,8 @@ pub fn read_all<F: Folder>(
     limit: u64,
 ) -> Result<Option<Vec<u8>>, ReadEnd>
     ensures same { F.held folder.new ≡ F.held folder.old }
-    ensures found { IfSome (F.held folder.old) (λ files. ReadsFile limit (get files name.now) result) }
+    ensures found { IfSome (F.held folder.old)
+        (λ files. ReadsFile limit (get files name.now) result) }
     ensures within { KeepsLimit limit result }
     ensures cause { HasReadCause (F.faults folder.old) (F.faults folder.new) result }
 {

@@ -39,7 +39,8 @@ impl Model for SureFolder {
 
 // The place of the file of this name.
 fn place_of(files: &[NamedFile], name: &str) -> Option<usize>
-    ensures { MatchOption result (find name_cmp name.now (entries_of files.now) ≡ None) (IsFirstAt name.now (entries_of files.now)) }
+    ensures { MatchOption result (find name_cmp name.now (entries_of files.now) ≡ None)
+        (IsFirstAt name.now (entries_of files.now)) }
 {
     for (i, file) in files.iter().enumerate() {
         if file.name.as_str() == name {
@@ -56,7 +57,8 @@ fn put_file(
     name: &str,
     bytes: Vec<u8>,
 ) -> Result<(), AllocError>
-    ensures ok { OnOk result (files_of files.new.items ≡ insert (files_of files.old.items) name.now bytes.items) }
+    ensures ok { OnOk result
+        (files_of files.new.items ≡ insert (files_of files.old.items) name.now bytes.items) }
     ensures err { OnErr result (files_of files.new.items ≡ files_of files.old.items) }
 {
     match place_of(files, name) {
@@ -79,7 +81,8 @@ fn extend_file(
     name: &str,
     bytes: &[u8],
 ) -> Result<(), AllocError>
-    ensures ok { OnOk result (files_of files.new.items ≡ appended name.now bytes.now (files_of files.old.items)) }
+    ensures ok { OnOk result
+        (files_of files.new.items ≡ appended name.now bytes.now (files_of files.old.items)) }
     ensures err { OnErr result (files_of files.new.items ≡ files_of files.old.items) }
 {
     match place_of(files, name) {

@@ -17,4 +17,5 @@ HasWaitingNorm waiting n = (z : List ℤ) × IsWaitingAt waiting n z
 
 -- the norms of the listed rows' pairs
 abbrev pub HasStagePair : List (List ℤ) → ℕ → Type 0
-HasStagePair listed n = (f : List ℤ) × (g : List ℤ) × IsPair listed f g × (stage_norm f + stage_norm g ≡ n)
+HasStagePair listed n =
+    (f : List ℤ) × (g : List ℤ) × IsPair listed f g × (stage_norm f + stage_norm g ≡ n)

@@ -34,7 +34,8 @@ pub record IsClass (listed : List (List ℤ)) (c : ClassValue) : Type 0 where
   pub places : AllByRecursion (IsPlace listed c.norm) c.ids
 
 -- the classes hold the rows that pass the test, in order
-pub record AreClasses (listed : List (List ℤ)) (test : List ℤ → Bool) (classes : List ClassValue) : Type 0 where
+pub record AreClasses (listed : List (List ℤ)) (test : List ℤ → Bool)
+    (classes : List ClassValue) : Type 0 where
   pub each : AllByRecursion (IsClass listed) classes
   pub ascending : IsStrictlySortedBy class_cmp classes
   pub rows : flat_map (λ c. rows_at listed c.ids) classes ≡ filter test listed
@@ -77,7 +78,8 @@ sign_test false z = has_negative_last z
 -- the pairs of norm e in order: the first rows as they are listed, and each with its second rows as they are listed
 abbrev pub pairs_of : List (List ℤ) → ℕ → List (List ℤ × List ℤ)
 pairs_of listed e =
-    flat_map (λ f. map (λ g. (f, g)) (filter (λ g. stage_norm f + stage_norm g == e) (filter has_negative_last listed)))
+    flat_map (λ f. map (λ g. (f, g))
+    (filter (λ g. stage_norm f + stage_norm g == e) (filter has_negative_last listed)))
     (filter has_positive_last listed)
 
 -- the p-th pair of norm e is that of the rows at places i and j

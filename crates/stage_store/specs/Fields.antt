@@ -17,8 +17,9 @@ use Rattle.stage_store.specs.Tallies.{IsTally}
 use Rattle.stage_store.specs.Answers.{IsNext}
 
 -- the rows that wait are those from the place `waited` on
-pub record Holds (s : StageValue) (listed : PoolValue) (tree : TreeValue) (waiting : PoolValue) (waited used : ℕ)
-    (plus minus : List ClassValue) (sieve : Sieve) (following : Following) (tally : Tally) (ahead : Opened) : Type 0 where
+pub record Holds (s : StageValue) (listed : PoolValue) (tree : TreeValue) (waiting : PoolValue)
+    (waited used : ℕ) (plus minus : List ClassValue) (sieve : Sieve) (following : Following)
+    (tally : Tally) (ahead : Opened) : Type 0 where
   pub stage : IsStage s
   pub listed_width : listed.width ≡ width s.system.equations + 1
   pub indexed : HoldsRows tree listed

@@ -12,5 +12,7 @@ PairsAreNumbered = (listed : List (List ℤ)) (e : ℕ) → AreNumbered listed e
 -- each once
 abbrev pub PairsStandOnce : Type 0
 PairsStandOnce =
-    (listed : List (List ℤ)) (e p q : ℕ) → IsStrictlySortedBy norm_cmp listed → p < length (pairs_of listed e) → q < length (pairs_of listed e)
-    → slice_index_or (pairs_of listed e) p ([], []) ≡ slice_index_or (pairs_of listed e) q ([], []) → p ≡ q
+    (listed : List (List ℤ)) (e p q : ℕ) → IsStrictlySortedBy norm_cmp listed
+    → p < length (pairs_of listed e) → q < length (pairs_of listed e)
+    → slice_index_or (pairs_of listed e) p ([], []) ≡ slice_index_or (pairs_of listed e) q ([], [])
+    → p ≡ q

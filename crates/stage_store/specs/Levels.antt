@@ -20,7 +20,8 @@ pub record MakesNone (S : LinearSystem) (listed : List (List ℤ)) (f g : List �
 
 -- f makes no irreducible sum with a row that reaches the level
 abbrev pub BarsAt : LinearSystem → List (List ℤ) → List ℤ → ℕ → Bool → ℕ → Type 0
-BarsAt S listed f column positive level = (g : List ℤ) → length g ≡ length f → ReachesAt g column positive level → MakesNone S listed f g
+BarsAt S listed f column positive level =
+    (g : List ℤ) → length g ≡ length f → ReachesAt g column positive level → MakesNone S listed f g
 
 -- the items are numbered: column k / 2, above 0 for even k and below 0 for odd k
 abbrev pub is_plus : ℕ → Bool
@@ -59,10 +60,12 @@ IsFull (Some c) x = c ≤ nat_abs x
 
 -- y is no larger than the sum of x and any number of the sign that has the amount
 abbrev pub IsRaised : Bool → ℕ → ℤ → ℤ → Type 0
-IsRaised positive level x y = (a : ℤ) → IsSigned positive a → 2 ^ level ≤ nat_abs a → IsWithin y (x +ℤ a)
+IsRaised positive level x y =
+    (a : ℤ) → IsSigned positive a → 2 ^ level ≤ nat_abs a → IsWithin y (x +ℤ a)
 
 -- a listed row is below the row with last entry 0 and the amount more
-pub record IsNear (listed : List (List ℤ)) (f : List ℤ) (column : ℕ) (positive : Bool) (level : ℕ) : Type 0 where
+pub record IsNear (listed : List (List ℤ)) (f : List ℤ) (column : ℕ) (positive : Bool)
+    (level : ℕ) : Type 0 where
   pub entry : ℤ
   pub raised : IsRaised positive level (slice_index_or f column (pos 0)) entry
   pub reduced : IsReduced listed (slice_set (with_reach f 0) column entry)
@@ -73,7 +76,8 @@ IsNearOr listed f column positive level = level < 8 → IsNear listed f column p
 
 -- the levels from one on are barred
 abbrev pub IsBarLevel : LinearSystem → List (List ℤ) → List ℤ → ℕ → Bool → ℕ → Type 0
-IsBarLevel S listed f column positive level = (l : ℕ) → l < 8 → level ≤ l → BarsAt S listed f column positive l
+IsBarLevel S listed f column positive level =
+    (l : ℕ) → l < 8 → level ≤ l → BarsAt S listed f column positive l
 
 -- the levels before one are reached
 abbrev pub IsReachLevel : List ℤ → ℕ → Bool → ℕ → Type 0

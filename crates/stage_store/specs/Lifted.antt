@@ -15,7 +15,8 @@ use Rattle.stage_store.specs.declared.stage.LiftEnd.{LiftEnd}
 use Rattle.stage_store.specs.declared.stage.LiftEnd.TheVariants.{Overflow, Memory}
 
 -- stage k at norm 0: nothing is listed, and the solutions of the rows before row k wait, each with its product with row k
-pub record IsStart (S : ToolSystem) (k used : ℕ) (solutions : List (List ℤ)) (s : StageValue) : Type 0 where
+pub record IsStart (S : ToolSystem) (k used : ℕ) (solutions : List (List ℤ))
+    (s : StageValue) : Type 0 where
   pub system : s.system ≡ S
   pub number : s.number ≡ k
   pub norm : s.norm ≡ 0
@@ -24,7 +25,8 @@ pub record IsStart (S : ToolSystem) (k used : ℕ) (solutions : List (List ℤ))
   pub waiting : s.waiting ≡ map (extend (row S.equations k)) solutions
 
 -- the solutions, with the pairs that were used
-pub record IsFinish (S : ToolSystem) (used : ℕ) (solutions : List (List ℤ)) (f : Finish) : Type 0 where
+pub record IsFinish (S : ToolSystem) (used : ℕ) (solutions : List (List ℤ))
+    (f : Finish) : Type 0 where
   pub system : f.system ≡ S
   pub width_is : f.rows.width ≡ width S.equations
   pub rows_are : f.rows.rows ≡ solutions
@@ -32,7 +34,9 @@ pub record IsFinish (S : ToolSystem) (used : ℕ) (solutions : List (List ℤ)) 
 
 -- with the solutions of the rows before row k: stage k, where there is a row k, and else the finish
 abbrev pub StartsAt : ToolSystem → ℕ → ℕ → List (List ℤ) → Lifted → Type 0
-StartsAt S k used solutions (Next s) = (k ≤ length S.equations.rows) × (find (leaves_range (row S.equations k)) solutions ≡ None) × IsStart S k used solutions s
+StartsAt S k used solutions (Next s) =
+    (k ≤ length S.equations.rows) × (find (leaves_range (row S.equations k)) solutions ≡ None)
+    × IsStart S k used solutions s
 StartsAt S k used solutions (Last f) = (length S.equations.rows < k) × IsFinish S used solutions f
 
 -- the same, or the first solution whose product with row k leaves the range
@@ -44,7 +48,8 @@ StartsOr S k used solutions (Err (Overflow stage first)) =
 StartsOr S k used solutions (Err Memory) = Unit {0}
 
 -- each solution with its product with row k, and no product leaves the range
-pub record AreExtended (S : ToolSystem) (k : ℕ) (solutions : List (List ℤ)) (rows : PoolValue) : Type 0 where
+pub record AreExtended (S : ToolSystem) (k : ℕ) (solutions : List (List ℤ))
+    (rows : PoolValue) : Type 0 where
   pub width_is : rows.width ≡ width S.equations + 1
   pub rows_are : rows.rows ≡ map (extend (row S.equations k)) solutions
   pub fit : find (leaves_range (row S.equations k)) solutions ≡ None
@@ -52,7 +57,8 @@ pub record AreExtended (S : ToolSystem) (k : ℕ) (solutions : List (List ℤ)) 
 -- the same, or the first solution whose product leaves the range
 abbrev pub ExtendsOr : ToolSystem → ℕ → List (List ℤ) → Result PoolValue LiftEnd → Type 0
 ExtendsOr S k solutions (Ok rows) = AreExtended S k solutions rows
-ExtendsOr S k solutions (Err (Overflow stage first)) = (stage ≡ k) × (find (leaves_range (row S.equations k)) solutions ≡ Some first)
+ExtendsOr S k solutions (Err (Overflow stage first)) =
+    (stage ≡ k) × (find (leaves_range (row S.equations k)) solutions ≡ Some first)
 ExtendsOr S k solutions (Err Memory) = Unit {0}
 
 -- from a system: its first stage, with the minimal solutions of no rows, or the finish with these
@@ -68,4 +74,5 @@ IsLift s l = StartsOr s.system (s.number + 1) (used_of s) (solutions_in s.listed
 -- the lists of the stage, or the rows of the finish, are the defined ones
 abbrev pub IsLiftedDefined : Lifted → Type 0
 IsLiftedDefined (Next s) = IsDefined s
-IsLiftedDefined (Last f) = IsSolutionList f.system.equations (length f.system.equations.rows) f.rows.rows
+IsLiftedDefined (Last f) =
+    IsSolutionList f.system.equations (length f.system.equations.rows) f.rows.rows

@@ -26,11 +26,15 @@ AreClear lines = (m r : ℕ) → HasBit lines m r → ⊥
 
 -- row q is marked in the lines that are said, and in no others
 abbrev pub MarksRow : Bool → List ℕ → ℕ → List ℕ → List ℕ → Type 0
-MarksRow upper levels q old new = (m r : ℕ) → m < length old → r < 64 → HasBit new m r → HasBit old m r ⊎ ((r ≡ q) × IsSaid upper levels m)
+MarksRow upper levels q old new =
+    (m r : ℕ) → m < length old → r < 64 → HasBit new m r
+    → HasBit old m r ⊎ ((r ≡ q) × IsSaid upper levels m)
 
 -- a row that has a bit has one in a line at one of the places
 abbrev pub IsAny : List ℕ → List ℕ → ℕ → Type 0
-IsAny lines places bits = (r : ℕ) → r < 64 → bit_at bits r ≡ 1 → (a : ℕ) × (a < length places) × HasBit lines (slice_index_or places a 0) r
+IsAny lines places bits =
+    (r : ℕ) → r < 64 → bit_at bits r ≡ 1
+    → (a : ℕ) × (a < length places) × HasBit lines (slice_index_or places a 0) r
 
 -- places of lines
 abbrev pub AreInside : ℕ → List ℕ → Type 0
@@ -42,11 +46,14 @@ IsMarkedAt lines r m = (m < length lines) × HasBit lines m r
 
 -- the same for the lines at places
 abbrev pub AreMarked : List ℕ → ℕ → List ℕ → Type 0
-AreMarked lines r places = (a : ℕ) → a < length places → IsMarkedAt lines r (slice_index_or places a 0)
+AreMarked lines r places =
+    (a : ℕ) → a < length places → IsMarkedAt lines r (slice_index_or places a 0)
 
 -- the lines at the places are said
 abbrev pub AreSaid : Bool → List ℕ → List ℕ → Type 0
-AreSaid upper levels places = (a : ℕ) → a < length places → (slice_index_or places a 0 < 8 * length levels) × IsSaid upper levels (slice_index_or places a 0)
+AreSaid upper levels places =
+    (a : ℕ) → a < length places
+    → (slice_index_or places a 0 < 8 * length levels) × IsSaid upper levels (slice_index_or places a 0)
 
 -- where row a·64 + r of the rows at the places has a bit in line m, P is true of it and m
 abbrev pub Tell : (List ℤ → ℕ → Type 0) → List (List ℤ) → List ℕ → ℕ → List ℕ → Type 0

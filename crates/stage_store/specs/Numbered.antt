@@ -18,7 +18,8 @@ pub record IsSumNumbered (s : StageValue) (e from to : ℕ) (z : List ℤ) : Typ
 
 -- besides what was there, the irreducible sums of the pairs with these numbers are there
 abbrev pub GainsNumbered : StageValue → ℕ → ℕ → ℕ → List (List ℤ) → List (List ℤ) → Type 0
-GainsNumbered s e from to old new = (z : List ℤ) → Contains new z ↔ (Contains old z ⊎ IsSumNumbered s e from to z)
+GainsNumbered s e from to old new =
+    (z : List ℤ) → Contains new z ↔ (Contains old z ⊎ IsSumNumbered s e from to z)
 
 -- no pair with a number from one on and below another has an irreducible sum
 abbrev pub HasNoneBetween : StageValue → ℕ → ℕ → ℕ → Type 0

@@ -15,7 +15,8 @@ use Rattle.stage_store.specs.declared.opened.Opened.{Opened}
 
 -- ascending, where none is there twice
 abbrev pub AreAscending : List ℕ → Type 0
-AreAscending ids = (i j : ℕ) → i ≤ j → j < length ids → slice_index_or ids i 0 ≤ slice_index_or ids j 0
+AreAscending ids =
+    (i j : ℕ) → i ≤ j → j < length ids → slice_index_or ids i 0 ≤ slice_index_or ids j 0
 
 abbrev pub AscendWithin : List ClassValue → Type 0
 AscendWithin classes = AllByRecursion (λ c. AreAscending c.ids) classes
@@ -23,7 +24,8 @@ AscendWithin classes = AllByRecursion (λ c. AreAscending c.ids) classes
 -- the number of the first pair of each class
 pub record AreStarts (plus minus : List ClassValue) (e : ℕ) (starts : List ℕ) : Type 0 where
   pub count : length starts ≡ length plus
-  pub each : (k : ℕ) → k < length plus → slice_index_or starts k 0 ≡ sum_by (λ c. part_size minus e c) (take k plus)
+  pub each : (k : ℕ) → k < length plus
+      → slice_index_or starts k 0 ≡ sum_by (λ c. part_size minus e c) (take k plus)
 
 -- the place of the class of norm n, and that there is none
 pub record IsClassOf (classes : List ClassValue) (n k : ℕ) : Type 0 where
@@ -54,7 +56,8 @@ pub record IsNumberOf (plus minus : List ClassValue) (e i j p : ℕ) : Type 0 wh
 -- no class of the norm has place i, or the other sign's class for norm e has no place j
 abbrev pub HasNoNumber : List ClassValue → List ClassValue → ℕ → ℕ → ℕ → ℕ → Type 0
 HasNoNumber plus minus e norm i j =
-    (k : ℕ) → k < length plus → norm_at plus k ≡ norm → Contains (slice_index_or plus k (record { norm = 0; ids = [] })).ids i
+    (k : ℕ) → k < length plus → norm_at plus k ≡ norm
+    → Contains (slice_index_or plus k (record { norm = 0; ids = [] })).ids i
     → Contains (ids_at minus (e - norm)) j → ⊥
 
 -- the pair is none of norm e
@@ -73,9 +76,11 @@ pub record IsAmongOpen (opens : List OpenPair) (i j : ℕ) : Type 0 where
   pub second_is : pair.second ≡ j
 
 -- of the kept pairs those of norm e that have a number are open
-pub record AreOpened (plus minus : List ClassValue) (e : ℕ) (kept : List KeptPair) (opens : List OpenPair) : Type 0 where
+pub record AreOpened (plus minus : List ClassValue) (e : ℕ) (kept : List KeptPair)
+    (opens : List OpenPair) : Type 0 where
   pub sound : (x : OpenPair) → Contains opens x → IsNumbered plus minus e x
-  pub whole : (x : KeptPair) → Contains kept x → x.norm ≡ e → Contains (ids_of plus minus e) (x.first, x.second) → IsAmongOpen opens x.first x.second
+  pub whole : (x : KeptPair) → Contains kept x → x.norm ≡ e
+      → Contains (ids_of plus minus e) (x.first, x.second) → IsAmongOpen opens x.first x.second
 
 -- the open pairs of norm e: in order of their numbers, and each pair of the norm that has an irreducible sum
 pub record IsOpen (s : StageValue) (e : ℕ) (opens : List OpenPair) : Type 0 where
@@ -84,12 +89,15 @@ pub record IsOpen (s : StageValue) (e : ℕ) (opens : List OpenPair) : Type 0 wh
       × IsPairAt s.listed e (slice_index_or opens k d).number (slice_index_or opens k d).first
       (slice_index_or opens k d).second
   pub ascending : IsNonDecreasingBy open_number opens
-  pub whole : (p : ℕ) (z : List ℤ) → p < length (pairs_of s.listed e) → IsSumOf s.system.equations s.listed (pair_at s e p).0 (pair_at s e p).1 z
+  pub whole : (p : ℕ) (z : List ℤ) → p < length (pairs_of s.listed e)
+      → IsSumOf s.system.equations s.listed (pair_at s e p).0 (pair_at s e p).1 z
       → (x : OpenPair) × Contains opens x × (x.number ≡ p)
 
 -- where a listed row is below the sum of a pair of norm e, one of the first rows is, so many of them
 abbrev pub AreEnough : StageValue → ℕ → ℕ → Type 0
-AreEnough s e count = (f g : List ℤ) → IsPair s.listed f g → stage_norm f + stage_norm g ≡ e → HasSum s.system.equations f g
+AreEnough s e count =
+    (f g : List ℤ) → IsPair s.listed f g → stage_norm f + stage_norm g ≡ e
+    → HasSum s.system.equations f g
     → IsReduced s.listed (add f g) → IsReduced (take count s.listed) (add f g)
 
 -- what is said of the lists holds, and what is said of a norm's open pairs, once they are known

@@ -18,10 +18,12 @@ abbrev pub IsReachOr : List (List ℤ) → List ℤ → ℕ → Type 0
 IsReachOr listed row r = 0 < r → IsReduced listed (with_reach row r)
 
 abbrev pub AreReaches : List (List ℤ) → List ℕ → Type 0
-AreReaches listed reaches = (k : ℕ) → k < length reaches → IsReachOr listed (row_at listed k) (slice_index_or reaches k 0)
+AreReaches listed reaches =
+    (k : ℕ) → k < length reaches → IsReachOr listed (row_at listed k) (slice_index_or reaches k 0)
 
 -- x is above 0 and y below it, and one is larger than the other by its reach or more
 pub record AreFarApart (x y : ℤ) (reach other : ℕ) : Type 0 where
   pub above : pos 0 <ℤ x
   pub under : y <ℤ pos 0
-  pub far : ((0 < reach) × (nat_abs x + reach ≤ nat_abs y)) ⊎ ((0 < other) × (nat_abs y + other ≤ nat_abs x))
+  pub far : ((0 < reach) × (nat_abs x + reach ≤ nat_abs y))
+      ⊎ ((0 < other) × (nat_abs y + other ≤ nat_abs x))

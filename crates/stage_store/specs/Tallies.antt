@@ -32,7 +32,8 @@ pub record HasRaised (old new : Tally) (place n : ℕ) : Type 0 where
 pub record HasGained (old new : Tally) (others : List ClassValue) (c : ClassValue) : Type 0 where
   pub base_is : new.base ≡ old.base
   pub span : new.span ≤ old.span
-  pub counts : (i : ℕ) → i < new.span → noted new i ≡ noted old i + length c.ids * length (ids_at others ((old.base + i) - c.norm))
+  pub counts : (i : ℕ) → i < new.span
+      → noted new i ≡ noted old i + length c.ids * length (ids_at others ((old.base + i) - c.norm))
 
 -- so many pairs are noted of a norm
 pub record IsNoted (t : Tally) (n pairs : ℕ) : Type 0 where

@@ -72,7 +72,8 @@ pub fn rows_within(listed: &Pool, most: u64) -> u32
     requires ascending { IsStrictlySortedBy norm_cmp listed.now.rows }
     requires small { AllByRecursion (λ z. stage_norm z ≤ 9223372036854775807) listed.now.rows }
     ensures within { result ≤ length listed.now.rows }
-    ensures behind { (k : ℕ) → result ≤ k → k < length listed.now.rows → most < stage_norm (slice_index_or listed.now.rows k []) }
+    ensures behind { (k : ℕ) → result ≤ k → k < length listed.now.rows
+        → most < stage_norm (slice_index_or listed.now.rows k []) }
 {
     let mut low = 0;
     let mut high = listed.len();

@@ -23,8 +23,10 @@ pub fn waits_up_to(waiting: &Pool, from: u32, least: u64) -> u32
     requires small { least ≤ 9223372036854775807 }
     ensures from { from ≤ result }
     ensures to { result ≤ length waiting.now.rows }
-    ensures before { (k : ℕ) → from ≤ k → k < result → stage_norm (slice_index_or waiting.now.rows k []) ≡ least }
-    ensures at { result < length waiting.now.rows → stage_norm (slice_index_or waiting.now.rows result []) ≡ least → ⊥ }
+    ensures before { (k : ℕ) → from ≤ k → k < result
+        → stage_norm (slice_index_or waiting.now.rows k []) ≡ least }
+    ensures at { result < length waiting.now.rows
+        → stage_norm (slice_index_or waiting.now.rows result []) ≡ least → ⊥ }
 {
     let width = waiting.width() as usize - 1;
     for i in from..waiting.len() {
@@ -78,7 +80,8 @@ pub fn merged_rows(
     requires waits { IsStrictlySortedBy lex_cmp (drop from (take to waits.now.rows)) }
     requires sums { IsStrictlySortedBy lex_cmp sums.now.rows }
     ensures width { IfOk result (λ rows. rows.width ≡ waits.now.width) }
-    ensures rows { IfOk result (λ rows. rows.rows ≡ merged lex_cmp (drop from (take to waits.now.rows)) sums.now.rows) }
+    ensures rows { IfOk result
+        (λ rows. rows.rows ≡ merged lex_cmp (drop from (take to waits.now.rows)) sums.now.rows) }
 {
     let mut rows = Pool::new(alloc, waits.width());
     rows.reserve(room)?;
@@ -96,7 +99,8 @@ fn merge_into(listed: &mut Pool, waits: &Pool, from: u32, to: u32, sums: &Pool)
     requires waits { IsStrictlySortedBy lex_cmp (drop from (take to waits.now.rows)) }
     requires sums { IsStrictlySortedBy lex_cmp sums.now.rows }
     ensures width { listed.new.width ≡ listed.old.width }
-    ensures rows { listed.new.rows ≡ listed.old.rows ++ merged lex_cmp (drop from (take to waits.now.rows)) sums.now.rows }
+    ensures rows { listed.new.rows ≡ listed.old.rows
+        ++ merged lex_cmp (drop from (take to waits.now.rows)) sums.now.rows }
 {
     let mut i = from;
     let mut j = 0;

@@ -230,7 +230,8 @@ fn take_open(
 fn open_from(pairs: &[OpenPair], first: u64) -> usize
     requires { IsNonDecreasingBy open_number pairs.now }
     ensures within { result ≤ length pairs.now }
-    ensures before { (k : ℕ) (d : OpenPair) → k < result → open_number (slice_index_or pairs.now k d) < first }
+    ensures before { (k : ℕ) (d : OpenPair) → k < result
+        → open_number (slice_index_or pairs.now k d) < first }
 {
     let mut low = 0;
     let mut high = pairs.len();
@@ -266,7 +267,8 @@ pub fn take_opened(
     ensures sum { length sum.new ≡ length sum.old }
     ensures width { rows.new.width ≡ rows.old.width }
     ensures kept { length rows.old.rows ≤ length rows.new.rows }
-    ensures gains { GainsNumbered stage.now opened.now.norm first (first + count) rows.old.rows rows.new.rows }
+    ensures gains { GainsNumbered stage.now opened.now.norm first
+        (first + count) rows.old.rows rows.new.rows }
 {
     let pairs = &opened.pairs;
     let to = first + count;

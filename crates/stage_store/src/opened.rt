@@ -53,7 +53,8 @@ impl Opened {
 /// The place of a number among ascending ones.
 fn place_of(ids: &[u32], id: u32) -> Option<usize>
     requires { AreAscending ids.now }
-    ensures { MatchOption result (Contains ids.now id → ⊥) (λ k. (k < length ids.now) × (slice_index_or ids.now k 0 ≡ id)) }
+    ensures { MatchOption result (Contains ids.now id → ⊥)
+        (λ k. (k < length ids.now) × (slice_index_or ids.now k 0 ≡ id)) }
 {
     match ids.binary_search(&id) {
         Ok(k) => Some(k),
@@ -102,7 +103,8 @@ fn number_in(firsts: &[u32], seconds: &[u32], start: u64, first: u32, second: u3
     requires firsts { AreAscending firsts.now }
     requires seconds { AreAscending seconds.now }
     requires small { start + length firsts.now * length seconds.now < 2 ^ 63 }
-    ensures { MatchOption result (Contains firsts.now first → Contains seconds.now second → ⊥) (IsPlacedIn firsts.now seconds.now start first second) }
+    ensures { MatchOption result (Contains firsts.now first → Contains seconds.now second → ⊥)
+        (IsPlacedIn firsts.now seconds.now start first second) }
 {
     match (place_of(firsts, first), place_of(seconds, second)) {
         (Some(q), Some(r)) => Some(start + (q as u64 * seconds.len() as u64 + r as u64)),
@@ -126,7 +128,8 @@ fn number_of(
     requires minus_ids { AscendWithin minus.now }
     requires starts { AreStarts plus.now minus.now e starts.now }
     requires small { sum_by (λ c. part_size minus.now e c) plus.now < 2 ^ 63 }
-    ensures { MatchOption result (HasNoNumber plus.now minus.now e norm first second) (IsNumberOf plus.now minus.now e first second) }
+    ensures { MatchOption result (HasNoNumber plus.now minus.now e norm first second)
+        (IsNumberOf plus.now minus.now e first second) }
 {
     match class_of_norm(plus, norm) {
         None => None,
@@ -155,7 +158,8 @@ fn number_of_kept(
     requires small { sum_by (λ c. part_size minus.now e c) plus.now < 2 ^ 63 }
     requires width { listed.now.width ≡ width + 1 }
     requires norms { AreNormed listed.now.rows }
-    ensures { MatchOption result (IsNotNumbered plus.now minus.now e pair) (IsNumberOf plus.now minus.now e pair.first pair.second) }
+    ensures { MatchOption result (IsNotNumbered plus.now minus.now e pair)
+        (IsNumberOf plus.now minus.now e pair.first pair.second) }
 {
     if pair.norm != e || pair.first >= listed.len() {
         return None;
@@ -166,7 +170,8 @@ fn number_of_kept(
 
 /// Whether a pair has norm e.
 fn holds_norm(kept: &[KeptPair], e: u64) -> bool
-    ensures { IsFalse result → (k : ℕ) (d : KeptPair) → k < length kept.now → (slice_index_or kept.now k d).norm ≡ e → ⊥ }
+    ensures { IsFalse result → (k : ℕ) (d : KeptPair) → k < length kept.now
+        → (slice_index_or kept.now k d).norm ≡ e → ⊥ }
 {
     for k in 0..kept.len() {
         if kept[k].norm == e {

@@ -17,7 +17,9 @@ pub fn in_order(alloc: Global, first: &Pool, second: &Pool) -> Result<Pool, Allo
     requires width { first.now.width ≡ second.now.width }
     requires narrow { first.now.width ≤ 130 }
     ensures width { IfOk result (λ rows. rows.width ≡ first.now.width) }
-    ensures rows { IfOk result (λ rows. IsListOf lex_cmp (λ z. Contains first.now.rows z ⊎ Contains second.now.rows z) rows.rows) }
+    ensures rows { IfOk result
+        (λ rows. IsListOf lex_cmp
+        (λ z. Contains first.now.rows z ⊎ Contains second.now.rows z) rows.rows) }
 {
     let mut rows = Vec::new(alloc);
     take_rows(&mut rows, first)?;
@@ -29,7 +31,8 @@ pub fn in_order(alloc: Global, first: &Pool, second: &Pool) -> Result<Pool, Allo
 /// Takes the rows of a pool in.
 fn take_rows<'a>(rows: &mut Vec<&'a [i64]>, pool: &'a Pool) -> Result<(), AllocError>
     requires fit { AreFit pool.now.width (rows_behind rows.old.items) }
-    ensures rows { OnOk result (rows_behind rows.new.items ≡ rows_behind rows.old.items ++ pool.now.rows) }
+    ensures rows { OnOk result
+        (rows_behind rows.new.items ≡ rows_behind rows.old.items ++ pool.now.rows) }
     ensures fit { OnOk result (AreFit pool.now.width (rows_behind rows.new.items)) }
 {
     for i in 0..pool.len() {

@@ -35,7 +35,8 @@ pub fn classes_of(alloc: Global, listed: &Pool, positive: bool) -> Result<Vec<Cl
     requires above { AllByRecursion (λ z. 0 < stage_norm z) listed.now.rows }
     requires small { AllByRecursion (λ z. stage_norm z ≤ 9223372036854775807) listed.now.rows }
     requires few { length listed.now.rows ≤ 2 ^ 21 }
-    ensures classes { IfOk result (λ classes. AreClasses listed.now.rows (sign_test positive) classes.items) }
+    ensures classes { IfOk result
+        (λ classes. AreClasses listed.now.rows (sign_test positive) classes.items) }
     ensures ids { IfOk result (λ classes. AscendWithin classes.items) }
 {
     let mut classes = Vec::new(alloc);
@@ -64,7 +65,8 @@ fn class_within(
     requires to { to ≤ length listed.now.rows }
     requires width { 0 < listed.now.width }
     ensures norm { IfOk result (λ c. c.norm ≡ norm) }
-    ensures ids { IfOk result (λ c. c.ids ≡ places (sign_test positive) from (drop from (take to listed.now.rows))) }
+    ensures ids { IfOk result
+        (λ c. c.ids ≡ places (sign_test positive) from (drop from (take to listed.now.rows))) }
 {
     let mut ids = Vec::new(alloc);
     let width = listed.width() as usize - 1;

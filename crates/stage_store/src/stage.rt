@@ -270,7 +270,8 @@ impl Stage {
         requires waiting_width { waiting.width ≡ width system.equations + 1 }
         requires most { used ≤ 2 ^ 62 }
         requires enough { pairs_within listed.rows norm ≤ used }
-        ensures stage { IfOk result (λ s. s ≡ stage_of system number norm used listed.rows waiting.rows) }
+        ensures stage { IfOk result
+            (λ s. s ≡ stage_of system number norm used listed.rows waiting.rows) }
         ensures used { IfOk result (λ s. used_of s ≡ used) }
     {
         let before = used - pairs_within(&listed, norm);
@@ -426,8 +427,10 @@ impl Stage {
     pub fn pair(&self, norm: u64, p: u64) -> (RowId, RowId)
         requires { p < length (pairs_of self.now.listed norm) }
         ensures place { IsPairAt self.now.listed norm p result.0.0 result.1.0 }
-        ensures pair { IsPair self.now.listed (slice_index_or self.now.listed result.0.0 []) (slice_index_or self.now.listed result.1.0 []) }
-        ensures norm { stage_norm (slice_index_or self.now.listed result.0.0 []) + stage_norm (slice_index_or self.now.listed result.1.0 []) ≡ norm }
+        ensures pair { IsPair self.now.listed (slice_index_or self.now.listed result.0.0 [])
+            (slice_index_or self.now.listed result.1.0 []) }
+        ensures norm { stage_norm (slice_index_or self.now.listed result.0.0 [])
+            + stage_norm (slice_index_or self.now.listed result.1.0 []) ≡ norm }
     {
         let (f, g) = find_pair(&self.plus, &self.minus, norm, p);
         (RowId(f), RowId(g))
@@ -481,7 +484,8 @@ impl Stage {
     pub fn find_below(&self, z: &[i64], visits: &mut Visits) -> Option<RowId>
         requires { length z.now ≡ width self.now.system.equations + 1 }
         ensures { MatchOption result (IsIrreducible self.now.listed z.now)
-            (λ i. (i.0 < length self.now.listed) × (slice_index_or self.now.listed i.0 [] ⊑ z.now)) }
+            (λ i. (i.0 < length self.now.listed)
+            × (slice_index_or self.now.listed i.0 [] ⊑ z.now)) }
     {
         self.tree.find_below(&self.listed, z, visits)
     }
@@ -490,7 +494,8 @@ impl Stage {
     pub(crate) fn find_before(&self, z: &[i64], end: u32) -> Option<RowId>
         requires { length z.now ≡ width self.now.system.equations + 1 }
         ensures { MatchOption result (IsIrreducible (take end self.now.listed) z.now)
-            (λ i. (i.0 < length self.now.listed) × (slice_index_or self.now.listed i.0 [] ⊑ z.now)) }
+            (λ i. (i.0 < length self.now.listed)
+            × (slice_index_or self.now.listed i.0 [] ⊑ z.now)) }
     {
         self.tree
             .find_below_before(&self.listed, z, end, &mut Visits { count: 0 })
@@ -522,13 +527,18 @@ impl Stage {
     pub fn sum_into(&self, f: RowId, g: RowId, out: &mut [i64]) -> bool
         requires first { f.0 < length self.now.listed }
         requires second { g.0 < length self.now.listed }
-        requires pair { IsPair self.now.listed (slice_index_or self.now.listed f.0 []) (slice_index_or self.now.listed g.0 []) }
-        requires norm { stage_norm (slice_index_or self.now.listed f.0 []) + stage_norm (slice_index_or self.now.listed g.0 []) ≤ 9223372036854775807 }
+        requires pair { IsPair self.now.listed (slice_index_or self.now.listed f.0 [])
+            (slice_index_or self.now.listed g.0 []) }
+        requires norm { stage_norm (slice_index_or self.now.listed f.0 [])
+            + stage_norm (slice_index_or self.now.listed g.0 []) ≤ 9223372036854775807 }
         requires out { length out.old ≡ width self.now.system.equations + 1 }
         ensures length { length out.new ≡ length out.old }
         ensures kept { IsFalse result → out.new ≡ out.old }
-        ensures sum { IsTrue result ↔ HasSum self.now.system.equations (slice_index_or self.now.listed f.0 []) (slice_index_or self.now.listed g.0 []) }
-        ensures is { IsTrue result → out.new ≡ add (slice_index_or self.now.listed f.0 []) (slice_index_or self.now.listed g.0 []) }
+        ensures sum { IsTrue result
+            ↔ HasSum self.now.system.equations (slice_index_or self.now.listed f.0 [])
+            (slice_index_or self.now.listed g.0 []) }
+        ensures is { IsTrue result → out.new
+            ≡ add (slice_index_or self.now.listed f.0 []) (slice_index_or self.now.listed g.0 []) }
         ensures range { IsTrue result → All InRange out.new }
     {
         let system = &self.system;
@@ -564,7 +574,8 @@ impl Stage {
         ensures sum { length sum.new ≡ length sum.old }
         ensures width { rows.new.width ≡ rows.old.width }
         ensures kept { length rows.old.rows ≤ length rows.new.rows }
-        ensures gains { GainsNumbered self.now norm first (first + count) rows.old.rows rows.new.rows }
+        ensures gains { GainsNumbered self.now norm first
+            (first + count) rows.old.rows rows.new.rows }
     {
         if self.ahead.known && self.ahead.norm == norm {
             take_opened(self, &self.ahead, first, count, hints, sum, rows);

@@ -37,7 +37,8 @@ impl Tally {
 
     /// The place of a norm, where it is counted.
     fn place(&self, norm: u64) -> Option<usize>
-        ensures { MatchOption result ((norm < self.now.base) ⊎ (self.now.base + self.now.span ≤ norm))
+        ensures { MatchOption result
+            ((norm < self.now.base) ⊎ (self.now.base + self.now.span ≤ norm))
             (λ i. (i < self.now.span) × (self.now.base + i ≡ norm)) }
     {
         if norm < self.base || norm - self.base >= self.span {

@@ -17,7 +17,8 @@ column_sum k j = map (λ c. mark (c % k == j)) (range_with_len 0 (3 * k))
 
 -- the three row sums, and then the k column sums
 abbrev pub table_cells : ℕ → List ℤ
-table_cells k = flat_map (row_sum k) (range_with_len 0 3) ++ flat_map (column_sum k) (range_with_len 0 k)
+table_cells k =
+    flat_map (row_sum k) (range_with_len 0 3) ++ flat_map (column_sum k) (range_with_len 0 k)
 
 -- the matrix alone, with no further file
 abbrev pub tables_input : ℕ → Input

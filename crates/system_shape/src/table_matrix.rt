@@ -40,7 +40,8 @@ fn push_column_sum(cells: &mut Vec<i64>, k: u32, j: u32) -> Result<(), AllocErro
 // Adds the three row sums.
 fn push_row_sums(cells: &mut Vec<i64>, k: u32) -> Result<(), AllocError>
     requires { (2 ≤ k) × (k ≤ 20) }
-    ensures { OnOk result (cells.new.items ≡ cells.old.items ++ flat_map (row_sum k) (range_with_len 0 3)) }
+    ensures { OnOk result
+        (cells.new.items ≡ cells.old.items ++ flat_map (row_sum k) (range_with_len 0 3)) }
 {
     for i in 0..3 {
         push_row_sum(cells, k, i)?;
@@ -51,7 +52,8 @@ fn push_row_sums(cells: &mut Vec<i64>, k: u32) -> Result<(), AllocError>
 // Adds the k column sums.
 fn push_column_sums(cells: &mut Vec<i64>, k: u32) -> Result<(), AllocError>
     requires { (2 ≤ k) × (k ≤ 20) }
-    ensures { OnOk result (cells.new.items ≡ cells.old.items ++ flat_map (column_sum k) (range_with_len 0 k)) }
+    ensures { OnOk result
+        (cells.new.items ≡ cells.old.items ++ flat_map (column_sum k) (range_with_len 0 k)) }
 {
     for j in 0..k {
         push_column_sum(cells, k, j)?;
