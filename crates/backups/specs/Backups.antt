@@ -56,7 +56,8 @@ ends_of_intervals interval left (stage ∷ stages) =
 abbrev pub written_in_turn : List (List ℕ) → List StageValue → Files → Files
 written_in_turn names [] files = files
 written_in_turn names (stage ∷ stages) files =
-    written_in_turn (turned names) stages (written (slice_index_or names 0 []) (text_of_stage stage) files)
+    written_in_turn (turned names) stages
+    (written (slice_index_or names 0 []) (text_of_stage stage) files)
 
 -- the files after closed norms hold the backups of the last norm of each interval, which went to
 -- the names in turn

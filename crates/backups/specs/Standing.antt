@@ -31,7 +31,8 @@ pub record Turns : Type 0 where
 
 -- the first backup goes to the file of the slot
 abbrev pub turns_from : Slot → Option ℕ → List ℕ → List ℕ → Turns
-turns_from slot interval first second = record { interval = interval; names = names_from slot first second }
+turns_from slot interval first second =
+    record { interval = interval; names = names_from slot first second }
 
 -- the stages that are backed up, of those that are closed
 abbrev pub backed_up_of : Option ℕ → List StageValue → List StageValue
@@ -49,27 +50,32 @@ names_after names (stage ∷ stages) = names_after (turned names) stages
 
 -- the name of the backup that follows those of the closed stages
 abbrev pub next_backup : Turns → List StageValue → List ℕ
-next_backup turns closed = slice_index_or (names_after turns.names (backed_up_of turns.interval closed)) 0 []
+next_backup turns closed =
+    slice_index_or (names_after turns.names (backed_up_of turns.interval closed)) 0 []
 
 -- ---- what a run leaves
 -- the stages at the norms that the walk closes on the way to its end, in order
 abbrev pub Closes : Limits → Lifted → End → List StageValue → Type 0
-Closes limits (Next s) end closed = (final : StageValue) × Leads limits s closed final × EndsHere limits final end
+Closes limits (Next s) end closed =
+    (final : StageValue) × Leads limits s closed final × EndsHere limits final end
 Closes limits (Last f) end closed = closed ≡ []
 
 -- the files have all backups of the norms that the walk closes on the way to its end
-pub record HasAllBackups (turns : Turns) (limits : Limits) (from : Lifted) (end : End) (before : Files) (after : Option Files) : Type 0 where
+pub record HasAllBackups (turns : Turns) (limits : Limits) (from : Lifted) (end : End)
+    (before : Files) (after : Option Files) : Type 0 where
   pub closed : List StageValue
   pub closes : Closes limits from end closed
   pub files : after ≡ Some (backed turns closed before)
 
 -- all backups of the closed stages are whole, or the one of a further stage was refused: its file is then as before, or has a
 -- prefix of its text
-abbrev pub MayStandAfter : Turns → Limits → StageValue → List StageValue → Files → Option Files → Type 0
+abbrev pub MayStandAfter : Turns → Limits → StageValue → List StageValue → Files → Option Files
+    → Type 0
 MayStandAfter turns limits final closed before after =
     (after ≡ Some (backed turns closed before))
     ⊎ ((t : StageValue) × IsClosing limits final t × (k : ℕ)
-    × (after ≡ Some (written (next_backup turns closed) (take k (text_of_stage t)) (backed turns closed before))))
+    × (after
+    ≡ Some (written (next_backup turns closed) (take k (text_of_stage t)) (backed turns closed before))))
 
 -- the files have the backups of the first norms that the walk closes, and that of one more may be torn, the one that goes to
 -- the file `next`
@@ -77,12 +83,16 @@ abbrev pub HasFirstBackups : Turns → Limits → Lifted → List ℕ → Files 
 HasFirstBackups turns limits (Next s) next before after =
     (closed : List StageValue) × (final : StageValue) × Leads limits s closed final
     × (next ≡ next_backup turns closed) × MayStandAfter turns limits final closed before after
-HasFirstBackups turns limits (Last f) next before after = (next ≡ next_backup turns []) × (after ≡ Some before)
+HasFirstBackups turns limits (Last f) next before after =
+    (next ≡ next_backup turns []) × (after ≡ Some before)
 
 -- by the end that the run comes to, or the file of its next backup, where it breaks off
-abbrev pub LeavesFrom : Turns → Limits → Lifted → Result End (List ℕ) → Files → Option Files → Type 0
-LeavesFrom turns limits from (Ok end) before after = HasAllBackups turns limits from end before after
-LeavesFrom turns limits from (Err next) before after = HasFirstBackups turns limits from next before after
+abbrev pub LeavesFrom : Turns → Limits → Lifted → Result End (List ℕ) → Files → Option Files
+    → Type 0
+LeavesFrom turns limits from (Ok end) before after =
+    HasAllBackups turns limits from end before after
+LeavesFrom turns limits from (Err next) before after =
+    HasFirstBackups turns limits from next before after
 
 -- what a run from a start leaves; it may break off before it begins
 abbrev pub LeavesRun : Turns → Limits → Start → Result End (List ℕ) → Files → Option Files → Type 0
@@ -127,8 +137,11 @@ IsSoundFrom (Resumed s slot) f = AreSolutions f.system.equations f.rows.rows
 -- after any backups, whatever a further one leaves in its file, the last of them stands whole in the other file
 abbrev pub OneStands : Type 0
 OneStands =
-    (first second : List ℕ) (stages : List StageValue) (last : StageValue) (files : Files) (torn : List ℕ)
+    (first second : List ℕ) (stages : List StageValue) (last : StageValue) (files : Files)
+    (torn : List ℕ)
     → (first ≡ second → ⊥)
     → (name : List ℕ)
-    × (get (written (slice_index_or (names_after (first ∷ second ∷ []) (stages ++ last ∷ [])) 0 []) torn
-    (written_in_turn (first ∷ second ∷ []) (stages ++ last ∷ []) files)) name ≡ Some (text_of_stage last))
+    × (get (written
+    (slice_index_or (names_after (first ∷ second ∷ []) (stages ++ last ∷ [])) 0 []) torn
+    (written_in_turn (first ∷ second ∷ []) (stages ++ last ∷ []) files)) name
+    ≡ Some (text_of_stage last))

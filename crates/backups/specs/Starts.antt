@@ -44,11 +44,15 @@ is_later s t = nat_lt t.number s.number || ((t.number == s.number) && nat_lt t.n
 
 -- the file is not accepted, or its place is not later
 abbrev pub IsNotLater : ToolSystem → Option (List ℕ) → StageValue → Type 0
-IsNotLater S file s = ((f : RestartFault) × HasFirstFault S file f) ⊎ ((t : StageValue) × StandsIn S file t × (is_later t s ≡ false))
+IsNotLater S file s =
+    ((f : RestartFault) × HasFirstFault S file f)
+    ⊎ ((t : StageValue) × StandsIn S file t × (is_later t s ≡ false))
 
 -- the file is not accepted, or its place is earlier
 abbrev pub IsEarlier : ToolSystem → Option (List ℕ) → StageValue → Type 0
-IsEarlier S file s = ((f : RestartFault) × HasFirstFault S file f) ⊎ ((t : StageValue) × StandsIn S file t × (is_later s t ≡ true))
+IsEarlier S file s =
+    ((f : RestartFault) × HasFirstFault S file f)
+    ⊎ ((t : StageValue) × StandsIn S file t × (is_later s t ≡ true))
 
 -- the file with the later place is taken, and the first where both places are the same
 abbrev pub IsChosen : ToolSystem → Stored → StageValue → Slot → Type 0
@@ -63,7 +67,8 @@ Resumes S files (Resumed s slot) = IsChosen S files s slot
 -- the start, or the first fault of each file where neither is accepted
 abbrev pub FindsStart : ToolSystem → Stored → Result Start StartEnd → Type 0
 FindsStart S files (Ok start) = Resumes S files start
-FindsStart S files (Err (end.Refused f g)) = HasFirstFault S files.first f × HasFirstFault S files.second g
+FindsStart S files (Err (end.Refused f g)) =
+    HasFirstFault S files.first f × HasFirstFault S files.second g
 FindsStart S files (Err (end.Failed slot)) = ⊤
 FindsStart S files (Err end.Memory) = ⊤
 
@@ -117,4 +122,5 @@ slot_name Second first second = second
 
 -- both names, that of the slot first
 abbrev pub names_from : Slot → List ℕ → List ℕ → List (List ℕ)
-names_from slot first second = slot_name slot first second ∷ slot_name (other_slot slot) first second ∷ []
+names_from slot first second =
+    slot_name slot first second ∷ slot_name (other_slot slot) first second ∷ []

@@ -90,7 +90,8 @@ fn look_into<F: Folder>(
     name: &str,
     slot: Slot,
 ) -> Result<Content, StartEnd>
-    ensures found { IfSome (F.held folder.old) (λ files. IfOk result (IsContent system.now (get files name.now))) }
+    ensures found { IfSome (F.held folder.old)
+        (λ files. IfOk result (IsContent system.now (get files name.now))) }
     ensures same { F.held folder.new ≡ F.held folder.old }
     ensures sure { (f g : RestartFault) → result ≡ Err (StartEnd.Refused f g) → ⊥ }
     ensures cause { HasStartCause (F.faults folder.old) (F.faults folder.new) result }
@@ -130,7 +131,8 @@ fn later_of(first: Stage, second: Content) -> Start
 
 // The start where the first file has a fault.
 fn second_or(fault: RestartFault, second: Content) -> Result<Start, StartEnd>
-    ensures finds { (S : ToolSystem) (files : Stored) → IsContent S files.first (Content.Faulty fault)
+    ensures finds { (S : ToolSystem) (files : Stored)
+        → IsContent S files.first (Content.Faulty fault)
         → IsContent S files.second second → FindsStart S files result }
     ensures calm { (slot : Slot) → result ≡ Err (StartEnd.Failed slot) → ⊥ }
 {
@@ -165,7 +167,8 @@ pub fn read_start<F: Folder>(
     first: &str,
     second: &str,
 ) -> Result<Start, StartEnd>
-    ensures found { IfSome (F.held folder.old) (λ files. FindsStart system.now (stored_in first.now second.now files) result) }
+    ensures found { IfSome (F.held folder.old)
+        (λ files. FindsStart system.now (stored_in first.now second.now files) result) }
     ensures same { F.held folder.new ≡ F.held folder.old }
     ensures cause { HasStartCause (F.faults folder.old) (F.faults folder.new) result }
 {

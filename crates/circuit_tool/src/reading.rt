@@ -61,7 +61,8 @@ fn read_matrix<F: Folder>(
 ) -> Result<Grid, Stop>
     ensures same { F.held folder.new ≡ F.held folder.old }
     ensures matrix { IfSome (F.held folder.old) (λ files. Finds result
-        (at file (grid_in (limits_of file).bytes (limits_of file).rows (limits_of file).cols (get files (project.now ++ ending file))))) }
+        (at file (grid_in (limits_of file).bytes (limits_of file).rows (limits_of file).cols
+        (get files (project.now ++ ending file))))) }
     ensures columns { IfOk result (λ grid. grid.cols ≤ 64) }
     ensures words { result ≡ Err Stop.Usage → ⊥ }
     ensures cause { HasCause (F.faults folder.old) (F.faults folder.new) result }

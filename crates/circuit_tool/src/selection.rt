@@ -28,7 +28,8 @@ fn is_kept(least: &[u64], vector: &[i64]) -> bool
 // The rows that are kept.
 fn kept_rows<'a>(alloc: Global, set: &'a Grid, least: &[u64]) -> Result<Vec<&'a [i64]>, AllocError>
     requires { set.now.cols ≤ 64 }
-    ensures rows { IfOk result (λ rows. rows_behind rows.items ≡ filter (is_kept least.now) (rows_in set.now)) }
+    ensures rows { IfOk result
+        (λ rows. rows_behind rows.items ≡ filter (is_kept least.now) (rows_in set.now)) }
     ensures shape { IfOk result (λ rows. AreRows set.now.cols (rows_behind rows.items)) }
     ensures count { IfOk result (λ rows. length rows.items < 2 ^ 32) }
 {

@@ -36,8 +36,10 @@ fn stopped(end: PutEnd) -> Stop
 
 // Puts the summary.
 fn put_summary<O: Sink>(out: &mut O, circuits: u64) -> Result<(), PutEnd>
-    ensures done { OnOk result (O.held out.new ≡ append_known (O.held out.old) (summary_of circuits)) }
-    ensures refused { OnErr result (MayPut (summary_of circuits) (O.held out.old) (O.held out.new)) }
+    ensures done { OnOk result
+        (O.held out.new ≡ append_known (O.held out.old) (summary_of circuits)) }
+    ensures refused { OnErr result
+        (MayPut (summary_of circuits) (O.held out.old) (O.held out.new)) }
     ensures cause { HasPutCause (O.faults out.old) (O.faults out.new) result }
 {
     let mut digits = Buffer::new();
@@ -65,8 +67,10 @@ fn publish<F: Folder, O: Sink>(
     out: &mut O,
 ) -> Result<u64, Stop>
     ensures words { result ≡ Err Stop.Usage → ⊥ }
-    ensures published { Published project.now grid.now (F.held folder.old) (F.held folder.new) (O.held out.old) (O.held out.new) result }
-    ensures cause { HasCauses (F.faults folder.old) (F.faults folder.new) (O.faults out.old) (O.faults out.new) result }
+    ensures published { Published project.now grid.now (F.held folder.old) (F.held folder.new)
+        (O.held out.old) (O.held out.new) result }
+    ensures cause { HasCauses (F.faults folder.old) (F.faults folder.new) (O.faults out.old)
+        (O.faults out.new) result }
 {
     match write_output(alloc, folder, project, ".cir", grid) {
         Ok(()) => tell(out, u64::from(grid.rows)),
@@ -87,7 +91,8 @@ fn write_rows<F: Folder, O: Sink>(
     ensures ends { IfSome (F.held folder.old) (λ files. EndsWith project.now sets.now
         (record { files_before = files; files_after = F.held folder.new; out_before = O.held out.old; out_after = O.held out.new }) result) }
     ensures words { result ≡ Err Stop.Usage → ⊥ }
-    ensures cause { HasCauses (F.faults folder.old) (F.faults folder.new) (O.faults out.old) (O.faults out.new) result }
+    ensures cause { HasCauses (F.faults folder.old) (F.faults folder.new) (O.faults out.old)
+        (O.faults out.new) result }
 {
     match least_rows(alloc, &sets.set) {
         Ok(grid) => publish(alloc, project, &grid, folder, out),
@@ -107,7 +112,8 @@ fn conclude<F: Folder, O: Sink>(
     ensures ends { IfSome (F.held folder.old) (λ files. EndsWith project.now sets.now
         (record { files_before = files; files_after = F.held folder.new; out_before = O.held out.old; out_after = O.held out.new }) result) }
     ensures words { result ≡ Err Stop.Usage → ⊥ }
-    ensures cause { HasCauses (F.faults folder.old) (F.faults folder.new) (O.faults out.old) (O.faults out.new) result }
+    ensures cause { HasCauses (F.faults folder.old) (F.faults folder.new) (O.faults out.old)
+        (O.faults out.new) result }
 {
     match kernel_fault(&sets.mat, &sets.set) {
         Some(row) => Err(Stop::NotKernel { row }),
@@ -125,7 +131,8 @@ fn finish<F: Folder, O: Sink>(
     ensures ends { IfSome (F.held folder.old) (λ files. Ends (planned words.now files)
         (record { files_before = files; files_after = F.held folder.new; out_before = O.held out.old; out_after = O.held out.new }) result) }
     ensures words { result ≡ Err Stop.Usage ↔ (project_in words.now ≡ None) }
-    ensures cause { HasCauses (F.faults folder.old) (F.faults folder.new) (O.faults out.old) (O.faults out.new) result }
+    ensures cause { HasCauses (F.faults folder.old) (F.faults folder.new) (O.faults out.old)
+        (O.faults out.new) result }
 {
     let Some(project) = project(words) else {
         return Err(Stop::Usage);
@@ -167,7 +174,9 @@ pub fn run_circuits<F: Folder, O: Sink, E: Sink>(
     ensures words { result.end ≡ CirEnd.Usage ↔ (project_in words.now ≡ None) }
 
     // A device's fault is answered only where its count rose.
-    ensures fault { result.end ≡ CirEnd.Outside → Rose (F.faults folder.old) (F.faults folder.new) ⊎ Rose (O.faults out.old) (O.faults out.new) }
+    ensures fault { result.end ≡ CirEnd.Outside
+        → Rose (F.faults folder.old) (F.faults folder.new)
+        ⊎ Rose (O.faults out.old) (O.faults out.new) }
     ensures code { result.code ≡ code_of result.end }
 {
     circuit_law();

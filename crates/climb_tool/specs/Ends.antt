@@ -152,7 +152,8 @@ pub record IsCutShort (project : List ℕ) (p : Problem) (budget : ℕ) (t : Tra
   pub steps : List Step
   pub point : List ℤ
   pub climb : IsClimb p budget steps point
-  pub part : IsPartly project (output_of p.mat.cols point steps) (summary_of (reached_at p steps point)) t
+  pub part : IsPartly project (output_of p.mat.cols point steps)
+      (summary_of (reached_at p steps point)) t
 
 abbrev pub MayLeave : List ℕ → Problem → ℕ → Traces → Type 0
 MayLeave project p budget t = IsUntouched t ⊎ IsCutShort project p budget t

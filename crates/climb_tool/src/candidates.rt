@@ -27,8 +27,10 @@ fn if_within<'a>(upper: &[i64], x: &[i64], candidate: Candidate<'a>) -> Option<C
     requires point { IsWithinBounds upper.now x.now }
     requires vector { length candidate.vector.now ≡ length upper.now }
     requires range { All InRange candidate.vector.now }
-    ensures { MatchOption result (IsWithinBounds upper.now (add x.now (vector_of candidate.entry)) → ⊥)
-        (λ c. (c ≡ candidate.entry) × IsWithinBounds upper.now (add x.now (vector_of candidate.entry))) }
+    ensures { MatchOption result
+        (IsWithinBounds upper.now (add x.now (vector_of candidate.entry)) → ⊥)
+        (λ c. (c ≡ candidate.entry)
+        × IsWithinBounds upper.now (add x.now (vector_of candidate.entry))) }
 {
     if stays_within(upper, x, candidate) {
         Some(candidate)
@@ -45,7 +47,8 @@ fn helping<'a>(upper: &[i64], cost: &[i64], x: &[i64], vector: &'a [i64]) -> Opt
     requires vector { length vector.now ≡ length upper.now }
     requires range { All InRange vector.now }
     requires small { norm vector.now ≤ 9223372036854775807 }
-    ensures first { FirstHelp upper.now cost.now x.now (vector.now ∷ negated vector.now ∷ []) (option_map vector_of result) }
+    ensures first { FirstHelp upper.now cost.now x.now (vector.now ∷ negated vector.now ∷ [])
+        (option_map vector_of result) }
     ensures same { IfSome result (λ c. c.vector.now ≡ vector.now) }
 {
     let change = cost_of(cost, vector);
@@ -77,7 +80,8 @@ pub(crate) fn first_to_help<'a>(problem: &'a Problem, x: &[i64]) -> Option<Candi
     requires problem { IsProblem problem.now }
     requires kernel { AreInKernel problem.now }
     requires point { IsWithinBounds problem.now.upper.cells x.now }
-    ensures first { FirstHelp problem.now.upper.cells problem.now.cost.cells x.now (candidates (rows_in problem.now.set)) (option_map vector_of result) }
+    ensures first { FirstHelp problem.now.upper.cells problem.now.cost.cells x.now
+        (candidates (rows_in problem.now.set)) (option_map vector_of result) }
     ensures vector { IfSome result (λ c. length c.vector.now ≡ problem.now.mat.cols) }
     ensures range { IfSome result (λ c. All InRange c.vector.now) }
 {

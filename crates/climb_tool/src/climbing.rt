@@ -26,7 +26,8 @@ pub(crate) struct Path {
 fn push_step(cells: &mut Vec<i64>, count: u64, candidate: Candidate<'_>) -> Result<(), AllocError>
     requires count { count ≤ 9223372036854775807 }
     requires range { All InRange candidate.vector.now }
-    ensures { OnOk result (cells.new.items ≡ cells.old.items ++ (pos count ∷ vector_of candidate.entry)) }
+    ensures { OnOk result
+        (cells.new.items ≡ cells.old.items ++ (pos count ∷ vector_of candidate.entry)) }
 {
     cells.push(count as i64)?;
     for entry in candidate.vector {

@@ -59,7 +59,8 @@ fn budget(word: &[u8]) -> Option<u32>
 // The command of a budget and a project's name.
 fn named<'a>(budget: Option<u32>, project: &'a str) -> Option<Command<'a>>
     requires { IfSome budget (λ n. n ≤ 65536) }
-    ensures command { option_map (λ c. record { project = c.project.now; budget = c.budget }) result ≡ named budget project.now }
+    ensures command { option_map (λ c. record { project = c.project.now; budget = c.budget }) result
+        ≡ named budget project.now }
     ensures small { IfSome result (λ c. c.budget ≤ 65536) }
 {
     match budget {
@@ -70,7 +71,8 @@ fn named<'a>(budget: Option<u32>, project: &'a str) -> Option<Command<'a>>
 
 // The command, where the words are one: `--steps=N` may stand before the project.
 pub(crate) fn read_command(words: &Words) -> Option<Command<'_>>
-    ensures command { option_map (λ c. record { project = c.project.now; budget = c.budget }) result ≡ command_in words.now }
+    ensures command { option_map (λ c. record { project = c.project.now; budget = c.budget }) result
+        ≡ command_in words.now }
     ensures small { IfSome result (λ c. c.budget ≤ 65536) }
 {
     match words.len() {

@@ -60,8 +60,10 @@ fn wording(stop: Stop) -> Wording
 
 // Puts the line that says why a run stopped. After a refusal a prefix of it was put.
 fn put_stop<E: Sink>(err: &mut E, project: &str, stop: Stop) -> Result<(), PutEnd>
-    ensures done { OnOk result (E.held err.new ≡ append_known (E.held err.old) (message_of project.now stop)) }
-    ensures refused { OnErr result (MayPut (message_of project.now stop) (E.held err.old) (E.held err.new)) }
+    ensures done { OnOk result
+        (E.held err.new ≡ append_known (E.held err.old) (message_of project.now stop)) }
+    ensures refused { OnErr result
+        (MayPut (message_of project.now stop) (E.held err.old) (E.held err.new)) }
     ensures cause { HasCause (E.faults err.old) (E.faults err.new) result }
 {
     put_message(err, "climb", project, place(stop), &wording(stop))

@@ -72,7 +72,8 @@ fn room(upper: i64, entry: i64, step: i64) -> u64
     requires high { entry ≤ℤ upper }
     ensures most { result ≤ 9223372036854775807 }
     ensures room { (d : ℕ) → d ≤ 9223372036854775807
-        → ((pos 0 ≤ℤ (entry +ℤ (pos d *ℤ step))) × ((entry +ℤ (pos d *ℤ step)) ≤ℤ upper)) ↔ (d ≤ result) }
+        → ((pos 0 ≤ℤ (entry +ℤ (pos d *ℤ step))) × ((entry +ℤ (pos d *ℤ step)) ≤ℤ upper))
+        ↔ (d ≤ result) }
 {
     if step > 0 {
         (upper - entry).unsigned_abs() / step.unsigned_abs()
@@ -105,7 +106,8 @@ pub(crate) fn greatest(upper: &[i64], x: &[i64], candidate: Candidate<'_>) -> u6
 fn moved(entry: i64, count: u64, step: i64) -> i64
     requires count { count ≤ 9223372036854775807 }
     requires before { (pos 0 ≤ℤ entry) × (entry ≤ℤ pos 9223372036854775807) }
-    requires after { (pos 0 ≤ℤ (entry +ℤ (pos count *ℤ step))) × ((entry +ℤ (pos count *ℤ step)) ≤ℤ pos 9223372036854775807) }
+    requires after { (pos 0 ≤ℤ (entry +ℤ (pos count *ℤ step)))
+        × ((entry +ℤ (pos count *ℤ step)) ≤ℤ pos 9223372036854775807) }
     ensures { result ≡ entry +ℤ (pos count *ℤ step) }
 {
     entry + count as i64 * step

@@ -149,7 +149,8 @@ fn first_outside(upper: &[i64], point: &[i64]) -> Option<u32>
 // The costs, where one is too large.
 fn check_costs(cost: &[i64]) -> Result<(), Stop>
     requires { length cost.now ≤ 64 }
-    ensures is { result ≡ unless_column (first_true (map is_large cost.now)) (λ j. Stop.CostRange j) }
+    ensures is { result
+        ≡ unless_column (first_true (map is_large cost.now)) (λ j. Stop.CostRange j) }
     ensures stands { OnOk result (AllByRecursion (λ c. nat_abs c ≤ 72057594037927936) cost.now) }
 {
     match first_large(cost) {
@@ -161,7 +162,8 @@ fn check_costs(cost: &[i64]) -> Result<(), Stop>
 // The bounds, where one is negative.
 fn check_bounds(upper: &[i64]) -> Result<(), Stop>
     requires { length upper.now ≤ 64 }
-    ensures { result ≡ unless_column (first_true (map is_negative upper.now)) (λ j. Stop.UpperRange j) }
+    ensures { result
+        ≡ unless_column (first_true (map is_negative upper.now)) (λ j. Stop.UpperRange j) }
 {
     match first_negative(upper) {
         Some(at) => Err(Stop::UpperRange { at }),
@@ -173,7 +175,8 @@ fn check_bounds(upper: &[i64]) -> Result<(), Stop>
 fn check_start(upper: &[i64], start: &[i64]) -> Result<(), Stop>
     requires few { length upper.now ≤ 64 }
     requires lengths { length start.now ≡ length upper.now }
-    ensures is { result ≡ unless_column (first_true (outside_bounds upper.now start.now)) (λ j. Stop.Infeasible j) }
+    ensures is { result
+        ≡ unless_column (first_true (outside_bounds upper.now start.now)) (λ j. Stop.Infeasible j) }
     ensures stands { OnOk result (IsWithinBounds upper.now start.now) }
 {
     match first_outside(upper, start) {

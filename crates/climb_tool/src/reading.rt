@@ -59,7 +59,8 @@ fn read_matrix<F: Folder>(
 ) -> Result<Grid, Stop>
     ensures same { F.held folder.new ≡ F.held folder.old }
     ensures matrix { IfSome (F.held folder.old) (λ files. Finds result
-        (at file (grid_in (limits_of file).bytes (limits_of file).rows (limits_of file).cols (get files (project.now ++ ending file))))) }
+        (at file (grid_in (limits_of file).bytes (limits_of file).rows (limits_of file).cols
+        (get files (project.now ++ ending file))))) }
     ensures columns { IfOk result (λ grid. grid.cols ≤ 64) }
     ensures words { result ≡ Err Stop.Usage → ⊥ }
     ensures cause { HasCause (F.faults folder.old) (F.faults folder.new) result }
@@ -80,7 +81,8 @@ fn read_matrix<F: Folder>(
 // The five files, one after the other.
 fn read_files<F: Folder>(alloc: Global, folder: &mut F, project: &str) -> Result<Problem, Stop>
     ensures same { F.held folder.new ≡ F.held folder.old }
-    ensures files { IfSome (F.held folder.old) (λ files. Finds result (files_in project.now files)) }
+    ensures files { IfSome (F.held folder.old)
+        (λ files. Finds result (files_in project.now files)) }
     ensures columns { IfOk result (λ p. p.mat.cols ≤ 64) }
     ensures words { result ≡ Err Stop.Usage → ⊥ }
     ensures cause { HasCause (F.faults folder.old) (F.faults folder.new) result }
@@ -106,7 +108,8 @@ pub(crate) fn read_problem<F: Folder>(
     project: &str,
 ) -> Result<Problem, Stop>
     ensures same { F.held folder.new ≡ F.held folder.old }
-    ensures problem { IfSome (F.held folder.old) (λ files. Finds result (problem_in project.now files)) }
+    ensures problem { IfSome (F.held folder.old)
+        (λ files. Finds result (problem_in project.now files)) }
     ensures stands { IfOk result IsProblem }
     ensures words { result ≡ Err Stop.Usage → ⊥ }
     ensures cause { HasCause (F.faults folder.old) (F.faults folder.new) result }

@@ -48,7 +48,8 @@ fn stopped(end: PutEnd) -> Stop
 
 // Puts the summary.
 fn put_summary<O: Sink>(out: &mut O, reached: Reached) -> Result<(), PutEnd>
-    ensures done { OnOk result (O.held out.new ≡ append_known (O.held out.old) (summary_of reached)) }
+    ensures done { OnOk result
+        (O.held out.new ≡ append_known (O.held out.old) (summary_of reached)) }
     ensures refused { OnErr result (MayPut (summary_of reached) (O.held out.old) (O.held out.new)) }
     ensures cause { HasPutCause (O.faults out.old) (O.faults out.new) result }
 {
@@ -86,8 +87,10 @@ fn write_both<F: Folder>(
     steps: &Grid,
     folder: &mut F,
 ) -> Result<(), PutEnd>
-    ensures done { OnOk result (F.held folder.new ≡ both_written project.now opt.now steps.now (F.held folder.old)) }
-    ensures refused { OnErr result (IsCut project.now (grid_files opt.now steps.now) (F.held folder.old) (F.held folder.new)) }
+    ensures done { OnOk result
+        (F.held folder.new ≡ both_written project.now opt.now steps.now (F.held folder.old)) }
+    ensures refused { OnErr result
+        (IsCut project.now (grid_files opt.now steps.now) (F.held folder.old) (F.held folder.new)) }
     ensures cause { HasPutCause (F.faults folder.old) (F.faults folder.new) result }
 {
     write_output(alloc, folder, project, ".opt", opt)?;
@@ -105,7 +108,8 @@ fn publish<F: Folder, O: Sink>(
     ensures words { result ≡ Err Stop.Usage → ⊥ }
     ensures published { Published project.now results.now.opt results.now.steps results.now.reached
         (F.held folder.old) (F.held folder.new) (O.held out.old) (O.held out.new) result }
-    ensures cause { HasCauses (F.faults folder.old) (F.faults folder.new) (O.faults out.old) (O.faults out.new) result }
+    ensures cause { HasCauses (F.faults folder.old) (F.faults folder.new) (O.faults out.old)
+        (O.faults out.new) result }
 {
     match write_both(alloc, project, &results.opt, &results.steps, folder) {
         Ok(()) => tell(out, results.reached),
@@ -155,7 +159,8 @@ fn write_path<F: Folder, O: Sink>(
     ensures ends { IfSome (F.held folder.old) (λ files. EndsWith project.now problem.now budget
         (record { files_before = files; files_after = F.held folder.new; out_before = O.held out.old; out_after = O.held out.new }) result) }
     ensures words { result ≡ Err Stop.Usage → ⊥ }
-    ensures cause { HasCauses (F.faults folder.old) (F.faults folder.new) (O.faults out.old) (O.faults out.new) result }
+    ensures cause { HasCauses (F.faults folder.old) (F.faults folder.new) (O.faults out.old)
+        (O.faults out.new) result }
 {
     match climb(alloc, problem, budget) {
         Ok(path) => publish(alloc, project, &lay_out(problem, path), folder, out),
@@ -177,7 +182,8 @@ fn conclude<F: Folder, O: Sink>(
     ensures ends { IfSome (F.held folder.old) (λ files. EndsWith project.now problem.now budget
         (record { files_before = files; files_after = F.held folder.new; out_before = O.held out.old; out_after = O.held out.new }) result) }
     ensures words { result ≡ Err Stop.Usage → ⊥ }
-    ensures cause { HasCauses (F.faults folder.old) (F.faults folder.new) (O.faults out.old) (O.faults out.new) result }
+    ensures cause { HasCauses (F.faults folder.old) (F.faults folder.new) (O.faults out.old)
+        (O.faults out.new) result }
 {
     match kernel_fault(&problem.mat, &problem.set) {
         Some(row) => Err(Stop::NotKernel { row }),
@@ -195,7 +201,8 @@ fn finish<F: Folder, O: Sink>(
     ensures ends { IfSome (F.held folder.old) (λ files. Ends (planned words.now files)
         (record { files_before = files; files_after = F.held folder.new; out_before = O.held out.old; out_after = O.held out.new }) result) }
     ensures words { result ≡ Err Stop.Usage ↔ (command_in words.now ≡ None) }
-    ensures cause { HasCauses (F.faults folder.old) (F.faults folder.new) (O.faults out.old) (O.faults out.new) result }
+    ensures cause { HasCauses (F.faults folder.old) (F.faults folder.new) (O.faults out.old)
+        (O.faults out.new) result }
 {
     let Some(command) = read_command(words) else {
         return Err(Stop::Usage);
@@ -248,7 +255,9 @@ pub fn run_climb<F: Folder, O: Sink, E: Sink>(
     ensures words { result.end ≡ ClimbEnd.Usage ↔ (command_in words.now ≡ None) }
 
     // A device's fault is answered only where its count rose.
-    ensures fault { result.end ≡ ClimbEnd.Outside → Rose (F.faults folder.old) (F.faults folder.new) ⊎ Rose (O.faults out.old) (O.faults out.new) }
+    ensures fault { result.end ≡ ClimbEnd.Outside
+        → Rose (F.faults folder.old) (F.faults folder.new)
+        ⊎ Rose (O.faults out.old) (O.faults out.new) }
     ensures code { result.code ≡ code_of result.end }
 {
     let outcome = finish(alloc, words, folder, out);

@@ -50,6 +50,7 @@ NothingIsLeft =
     (U : UserSystem) (c : ℤ) (x : List ℤ) (us : List (List ℤ)) (terms : List Term) (left : List ℤ)
     → IsWellFormed U
     → IsUserSolution U c x
-    → AllByRecursion (λ u. (d : ℤ) × (y : List ℤ) × IsUserSolution U d y × (u ≡ full_vector U d y)) us
+    → AllByRecursion
+    (λ u. (d : ℤ) × (y : List ℤ) × IsUserSolution U d y × (u ≡ full_vector U d y)) us
     → ((d : ℤ) (y : List ℤ) → IsMinimalForUser U d y → Contains us (full_vector U d y))
     → IsWalk us (full_vector U c x) terms left → IsZero left

@@ -145,7 +145,9 @@ fn push_differences(
     requires width { length x.now ≡ shaped.now.input.mat.cols }
     requires small { norm x.now ≤ largest }
     requires stand { RowsStand (user_of shaped.now).rows times x.now }
-    ensures { IfOk result (FillsRows full.old.items (differences (user_of shaped.now).rows times x.now) full.new.items) }
+    ensures { IfOk result
+        (FillsRows full.old.items
+        (differences (user_of shaped.now).rows times x.now) full.new.items) }
 {
     for i in 0..row_count(&shaped.input.mat) {
         if !push_difference(standing_at(shaped, times, x, i).difference(), full)? {
@@ -212,7 +214,8 @@ fn check(alloc: Global, shaped: &Shaped, file: DecFile, times: i64, grid: &Grid)
     requires times { IsTimes times }
     requires kind { IsX0 (user_of shaped.now).x0 times }
     requires width { grid.now.cols ≡ shaped.now.input.mat.cols }
-    ensures { ChecksPart (user_of shaped.now) (record { file = file; times = times; rows = rows_in grid.now }) result }
+    ensures { ChecksPart (user_of shaped.now)
+        (record { file = file; times = times; rows = rows_in grid.now }) result }
 {
     let mut full = Vec::new(alloc);
     for i in 0..grid.rows {

@@ -149,8 +149,10 @@ fn wording(stop: Stop) -> Wording
 
 // Puts the line that says why a run stopped. After a refusal a prefix of it was put.
 fn put_stop<E: Sink>(err: &mut E, project: &str, stop: Stop) -> Result<(), PutEnd>
-    ensures done { OnOk result (E.held err.new ≡ append_known (E.held err.old) (message_of project.now stop)) }
-    ensures refused { OnErr result (MayPut (message_of project.now stop) (E.held err.old) (E.held err.new)) }
+    ensures done { OnOk result
+        (E.held err.new ≡ append_known (E.held err.old) (message_of project.now stop)) }
+    ensures refused { OnErr result
+        (MayPut (message_of project.now stop) (E.held err.old) (E.held err.new)) }
     ensures cause { HasCause (E.faults err.old) (E.faults err.new) result }
 {
     put_message(err, "decompose", project, place(stop), &wording(stop))
@@ -158,8 +160,12 @@ fn put_stop<E: Sink>(err: &mut E, project: &str, stop: Stop) -> Result<(), PutEn
 
 // Puts an entry behind a space.
 fn put_entry<E: Sink>(err: &mut E, entry: i64) -> Result<(), PutEnd>
-    ensures done { OnOk result (E.held err.new ≡ append_known (E.held err.old) (text_of_parts ((32 ∷ signed_decimal entry) ∷ []))) }
-    ensures refused { OnErr result (MayPut (text_of_parts ((32 ∷ signed_decimal entry) ∷ [])) (E.held err.old) (E.held err.new)) }
+    ensures done { OnOk result
+        (E.held err.new
+        ≡ append_known (E.held err.old) (text_of_parts ((32 ∷ signed_decimal entry) ∷ []))) }
+    ensures refused { OnErr result
+        (MayPut (text_of_parts ((32 ∷ signed_decimal entry) ∷ [])) (E.held err.old)
+        (E.held err.new)) }
     ensures cause { HasCause (E.faults err.old) (E.faults err.new) result }
 {
     let mut digits = Buffer::new();
@@ -168,8 +174,10 @@ fn put_entry<E: Sink>(err: &mut E, entry: i64) -> Result<(), PutEnd>
 
 // Puts the entries, each behind a space.
 fn put_entries<E: Sink>(err: &mut E, v: &[i64]) -> Result<(), PutEnd>
-    ensures done { OnOk result (E.held err.new ≡ append_known (E.held err.old) (text_of_parts (entries v.now))) }
-    ensures refused { OnErr result (MayPut (text_of_parts (entries v.now)) (E.held err.old) (E.held err.new)) }
+    ensures done { OnOk result
+        (E.held err.new ≡ append_known (E.held err.old) (text_of_parts (entries v.now))) }
+    ensures refused { OnErr result
+        (MayPut (text_of_parts (entries v.now)) (E.held err.old) (E.held err.new)) }
     ensures cause { HasCause (E.faults err.old) (E.faults err.new) result }
 {
     for entry in v {
@@ -182,7 +190,9 @@ fn put_entries<E: Sink>(err: &mut E, v: &[i64]) -> Result<(), PutEnd>
 fn put_front<E: Sink>(err: &mut E) -> Result<(), PutEnd>
     ensures done { OnOk result (E.held err.new ≡ append_known (E.held err.old)
         (text_of_parts (codes "decompose" ∷ codes ": " ∷ codes "nothing fits" ∷ []))) }
-    ensures refused { OnErr result (MayPut (text_of_parts (codes "decompose" ∷ codes ": " ∷ codes "nothing fits" ∷ [])) (E.held err.old)
+    ensures refused { OnErr result
+        (MayPut (text_of_parts (codes "decompose" ∷ codes ": " ∷ codes "nothing fits" ∷ []))
+        (E.held err.old)
         (E.held err.new)) }
     ensures cause { HasCause (E.faults err.old) (E.faults err.new) result }
 {
@@ -191,8 +201,10 @@ fn put_front<E: Sink>(err: &mut E) -> Result<(), PutEnd>
 
 // Puts the end of a line.
 fn put_line_end<E: Sink>(err: &mut E) -> Result<(), PutEnd>
-    ensures done { OnOk result (E.held err.new ≡ append_known (E.held err.old) (text_of_parts (codes "\n" ∷ []))) }
-    ensures refused { OnErr result (MayPut (text_of_parts (codes "\n" ∷ [])) (E.held err.old) (E.held err.new)) }
+    ensures done { OnOk result
+        (E.held err.new ≡ append_known (E.held err.old) (text_of_parts (codes "\n" ∷ []))) }
+    ensures refused { OnErr result
+        (MayPut (text_of_parts (codes "\n" ∷ [])) (E.held err.old) (E.held err.new)) }
     ensures cause { HasCause (E.faults err.old) (E.faults err.new) result }
 {
     put_pieces(err, &[b"\n"])
@@ -200,8 +212,12 @@ fn put_line_end<E: Sink>(err: &mut E) -> Result<(), PutEnd>
 
 // Puts the entries, and ends the line.
 fn put_rest<E: Sink>(err: &mut E, rest: &[i64]) -> Result<(), PutEnd>
-    ensures done { OnOk result (E.held err.new ≡ append_known (E.held err.old) (text_of_parts (entries rest.now ++ codes "\n" ∷ []))) }
-    ensures refused { OnErr result (MayPut (text_of_parts (entries rest.now ++ codes "\n" ∷ [])) (E.held err.old) (E.held err.new)) }
+    ensures done { OnOk result
+        (E.held err.new
+        ≡ append_known (E.held err.old) (text_of_parts (entries rest.now ++ codes "\n" ∷ []))) }
+    ensures refused { OnErr result
+        (MayPut (text_of_parts (entries rest.now ++ codes "\n" ∷ [])) (E.held err.old)
+        (E.held err.new)) }
     ensures cause { HasCause (E.faults err.old) (E.faults err.new) result }
 {
     put_entries(err, rest)?;
@@ -210,8 +226,10 @@ fn put_rest<E: Sink>(err: &mut E, rest: &[i64]) -> Result<(), PutEnd>
 
 // Puts the line that says what is left. After a refusal a prefix of it was put.
 fn put_left<E: Sink>(err: &mut E, rest: &[i64]) -> Result<(), PutEnd>
-    ensures done { OnOk result (E.held err.new ≡ append_known (E.held err.old) (left_message rest.now)) }
-    ensures refused { OnErr result (MayPut (left_message rest.now) (E.held err.old) (E.held err.new)) }
+    ensures done { OnOk result
+        (E.held err.new ≡ append_known (E.held err.old) (left_message rest.now)) }
+    ensures refused { OnErr result
+        (MayPut (left_message rest.now) (E.held err.old) (E.held err.new)) }
     ensures cause { HasCause (E.faults err.old) (E.faults err.new) result }
 {
     put_front(err)?;

@@ -74,7 +74,8 @@ fn read_matrix<F: Folder>(
 ) -> Result<Grid, Stop>
     ensures same { F.held folder.new ≡ F.held folder.old }
     ensures matrix { IfSome (F.held folder.old) (λ files. Finds result
-        (at file (grid_in (limits_of file).bytes (limits_of file).rows (limits_of file).cols (get files (project.now ++ ending file))))) }
+        (at file (grid_in (limits_of file).bytes (limits_of file).rows (limits_of file).cols
+        (get files (project.now ++ ending file))))) }
     ensures limits { IfOk result (λ grid. (grid.rows ≤ 2097152) × (grid.cols ≤ 64)) }
     ensures words { result ≡ Err Stop.Usage → ⊥ }
     ensures cause { HasCause (F.faults folder.old) (F.faults folder.new) result }
@@ -100,8 +101,10 @@ fn read_second<F: Folder>(
     project: &str,
 ) -> Result<Option<Grid>, Stop>
     ensures same { F.held folder.new ≡ F.held folder.old }
-    ensures matrix { IfSome (F.held folder.old) (λ files. Finds result (second_in tool project.now files)) }
-    ensures limits { IfOk result (λ found. IfSome found (λ grid. (grid.rows ≤ 2097152) × (grid.cols ≤ 64))) }
+    ensures matrix { IfSome (F.held folder.old)
+        (λ files. Finds result (second_in tool project.now files)) }
+    ensures limits { IfOk result
+        (λ found. IfSome found (λ grid. (grid.rows ≤ 2097152) × (grid.cols ≤ 64))) }
     ensures words { result ≡ Err Stop.Usage → ⊥ }
     ensures cause { HasCause (F.faults folder.old) (F.faults folder.new) result }
 {
@@ -122,7 +125,8 @@ fn read_all<F: Folder>(
     project: &str,
 ) -> Result<Sets, Stop>
     ensures same { F.held folder.new ≡ F.held folder.old }
-    ensures sets { IfSome (F.held folder.old) (λ files. Finds result (found_in tool project.now files)) }
+    ensures sets { IfSome (F.held folder.old)
+        (λ files. Finds result (found_in tool project.now files)) }
     ensures first { IfOk result (λ sets. sets.first.rows ≤ 2097152) }
     ensures second { IfOk result (λ sets. IfSome sets.second (λ grid. grid.rows ≤ 2097152)) }
     ensures words { result ≡ Err Stop.Usage → ⊥ }
@@ -189,7 +193,8 @@ pub(crate) fn read_sets<F: Folder>(
     project: &str,
 ) -> Result<Sets, Stop>
     ensures same { F.held folder.new ≡ F.held folder.old }
-    ensures sets { IfSome (F.held folder.old) (λ files. Finds result (sets_in tool n project.now files)) }
+    ensures sets { IfSome (F.held folder.old)
+        (λ files. Finds result (sets_in tool n project.now files)) }
     ensures fits { IfOk result (λ sets. all_fitting tool n sets ≡ Ok sets) }
     ensures first { IfOk result (λ sets. sets.first.rows ≤ 2097152) }
     ensures second { IfOk result (λ sets. IfSome sets.second (λ grid. grid.rows ≤ 2097152)) }

@@ -30,7 +30,8 @@ fn tool(word: &str) -> Option<Tool>
 
 // What the words ask for, where they are a tool's name and then a project's.
 pub(crate) fn read_request(words: &Words) -> Option<Request<'_>>
-    ensures { option_map (λ r. record { tool = r.tool; project = r.project.now }) result ≡ asked_in words.now }
+    ensures { option_map (λ r. record { tool = r.tool; project = r.project.now }) result
+        ≡ asked_in words.now }
 {
     if words.len() != 2 {
         return None;

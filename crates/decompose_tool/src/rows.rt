@@ -73,7 +73,8 @@ pub(crate) struct Standing {
 impl Standing {
     // Whether it is as the relation says.
     pub(crate) fn holds(&self) -> bool
-        ensures { IsTrue result ↔ Stands (relation_of self.now.relation) self.now.product self.now.right }
+        ensures { IsTrue result
+            ↔ Stands (relation_of self.now.relation) self.now.product self.now.right }
     {
         let right = i128::from(self.right);
         match self.relation {
@@ -86,7 +87,9 @@ impl Standing {
     // The difference of both sides of an inequality.
     pub(crate) fn difference(&self) -> Option<i128>
         requires { nat_abs self.now.product ≤ 9223372036854775808 * 9223372036854775807 }
-        ensures { (rest : List ℤ) → difference_before (relation_of self.now.relation) self.now.product self.now.right rest ≡ in_front result rest }
+        ensures { (rest : List ℤ)
+            → difference_before (relation_of self.now.relation) self.now.product self.now.right rest
+            ≡ in_front result rest }
     {
         let right = i128::from(self.right);
         match self.relation {
@@ -119,7 +122,8 @@ pub(crate) fn standing_at(shaped: &Shaped, times: i64, x: &[i64], i: usize) -> S
     requires small { norm x.now ≤ largest }
     requires inside { i < shaped.now.input.mat.rows }
     ensures inside { i < length (user_of shaped.now).rows }
-    ensures stands { IsStanding (slice_index_or (user_of shaped.now).rows i no_row) times x.now result }
+    ensures stands { IsStanding
+        (slice_index_or (user_of shaped.now).rows i no_row) times x.now result }
 {
     let input = &shaped.input;
     let m = height(shaped);

@@ -72,8 +72,10 @@ fn publish<F: Folder, O: Sink>(
     out: &mut O,
 ) -> Result<Ending, Stop>
     ensures words { result ≡ Err Stop.Usage → ⊥ }
-    ensures published { Published project.now grid.now (F.held folder.old) (F.held folder.new) (O.held out.old) (O.held out.new) result }
-    ensures cause { HasCauses (F.faults folder.old) (F.faults folder.new) (O.faults out.old) (O.faults out.new) result }
+    ensures published { Published project.now grid.now (F.held folder.old) (F.held folder.new)
+        (O.held out.old) (O.held out.new) result }
+    ensures cause { HasCauses (F.faults folder.old) (F.faults folder.new) (O.faults out.old)
+        (O.faults out.new) result }
 {
     match write_output(alloc, folder, project, ".dec", grid) {
         Ok(()) => tell(out, u64::from(grid.rows)),
@@ -104,9 +106,11 @@ fn publish_walk<F: Folder, O: Sink>(
 ) -> Result<Ending, Stop>
     requires { IsMatrix walk.terms (n + 1) walk.cells.items × (n ≤ 64) }
     ensures words { result ≡ Err Stop.Usage → ⊥ }
-    ensures published { Published project.now (record { rows = walk.terms; cols = n + 1; cells = walk.cells.items }) (F.held folder.old)
+    ensures published { Published project.now
+        (record { rows = walk.terms; cols = n + 1; cells = walk.cells.items }) (F.held folder.old)
         (F.held folder.new) (O.held out.old) (O.held out.new) result }
-    ensures cause { HasCauses (F.faults folder.old) (F.faults folder.new) (O.faults out.old) (O.faults out.new) result }
+    ensures cause { HasCauses (F.faults folder.old) (F.faults folder.new) (O.faults out.old)
+        (O.faults out.new) result }
 {
     let grid = lay_out(n, walk);
     publish(alloc, project, &grid, folder, out)
@@ -125,11 +129,14 @@ fn conclude<F: Folder, O: Sink>(
     requires shape { AreInShape shaped.now.input.mat.cols sets.now }
     requires first { sets.now.first.rows ≤ 2097152 }
     requires second { IfSome sets.now.second (λ grid. grid.rows ≤ 2097152) }
-    ensures ends { IfSome (F.held folder.old) (λ files. EndsWith (plan_of project.now shaped.now sets.now)
+    ensures ends { IfSome (F.held folder.old)
+        (λ files. EndsWith (plan_of project.now shaped.now sets.now)
         (record { files_before = files; files_after = F.held folder.new; out_before = O.held out.old; out_after = O.held out.new }) result) }
-    ensures whole { HoldWanted shaped.now.system.tool (user_of shaped.now) sets.now → (rest : List ℤ) → result ≡ Ok (Ending.Left rest) → ⊥ }
+    ensures whole { HoldWanted shaped.now.system.tool (user_of shaped.now) sets.now
+        → (rest : List ℤ) → result ≡ Ok (Ending.Left rest) → ⊥ }
     ensures words { result ≡ Err Stop.Usage → ⊥ }
-    ensures cause { HasCauses (F.faults folder.old) (F.faults folder.new) (O.faults out.old) (O.faults out.new) result }
+    ensures cause { HasCauses (F.faults folder.old) (F.faults folder.new) (O.faults out.old)
+        (O.faults out.new) result }
 {
     check_all(alloc, shaped, sets)?;
     let walk = walk_over(alloc, shaped, sets)?;
@@ -149,7 +156,8 @@ fn read_system<F: Folder>(
     project: &str,
 ) -> Result<Shaped, Stop>
     ensures same { F.held folder.new ≡ F.held folder.old }
-    ensures input { IfSome (F.held folder.old) (λ files. FindsBy (λ s. s.input) result (of_input (accepted_in tool project.now files))) }
+    ensures input { IfSome (F.held folder.old)
+        (λ files. FindsBy (λ s. s.input) result (of_input (accepted_in tool project.now files))) }
     ensures read { IfOk result IsRead }
     ensures tool { IfOk result (λ s. s.system.tool ≡ tool) }
     ensures words { result ≡ Err Stop.Usage → ⊥ }
@@ -172,9 +180,11 @@ fn finish<F: Folder, O: Sink>(
 ) -> Result<Ending, Stop>
     ensures ends { IfSome (F.held folder.old) (λ files. Ends (planned words.now files)
         (record { files_before = files; files_after = F.held folder.new; out_before = O.held out.old; out_after = O.held out.new }) result) }
-    ensures whole { IfSome (F.held folder.old) (λ files. NothingLeft (planned words.now files) (end_of result)) }
+    ensures whole { IfSome (F.held folder.old)
+        (λ files. NothingLeft (planned words.now files) (end_of result)) }
     ensures words { result ≡ Err Stop.Usage ↔ (asked_in words.now ≡ None) }
-    ensures cause { HasCauses (F.faults folder.old) (F.faults folder.new) (O.faults out.old) (O.faults out.new) result }
+    ensures cause { HasCauses (F.faults folder.old) (F.faults folder.new) (O.faults out.old)
+        (O.faults out.new) result }
 {
     let Some(asked) = read_request(words) else {
         return Err(Stop::Usage);
@@ -216,13 +226,16 @@ pub fn run_decompose<F: Folder, O: Sink, E: Sink>(
         (record { files_before = files; files_after = F.held folder.new; out_before = O.held out.old; out_after = O.held out.new }) outcome) }
 
     // Where the set files hold what the tool writes for the system, nothing is left of any solution.
-    ensures whole { IfSome (F.held folder.old) (λ files. NothingLeft (planned words.now files) result.end) }
+    ensures whole { IfSome (F.held folder.old)
+        (λ files. NothingLeft (planned words.now files) result.end) }
 
     // Whether the words are a command's is decided by the words alone.
     ensures words { result.end ≡ DecEnd.Usage ↔ (asked_in words.now ≡ None) }
 
     // A device's fault is answered only where its count rose.
-    ensures fault { result.end ≡ DecEnd.Outside → Rose (F.faults folder.old) (F.faults folder.new) ⊎ Rose (O.faults out.old) (O.faults out.new) }
+    ensures fault { result.end ≡ DecEnd.Outside
+        → Rose (F.faults folder.old) (F.faults folder.new)
+        ⊎ Rose (O.faults out.old) (O.faults out.new) }
     ensures code { result.code ≡ code_of result.end }
 {
     let outcome = finish(alloc, words, folder, out);

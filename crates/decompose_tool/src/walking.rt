@@ -222,8 +222,9 @@ fn take_rows(
     requires sound { AllByRecursion (IsSound (user_of shaped.now) times) (rows_in grid.now) }
     requires state { IsOpen (width shaped.now.system.equations) walk.old }
     requires room { walk.old.terms ≤ 4194304 }
-    ensures goes { IfOk result (λ _. GoesOverRows shaped.now.input.mat.cols shaped.now.system.tool (user_of shaped.now) times
-        (rows_in grid.now) walk.old walk.new) }
+    ensures goes { IfOk result
+        (λ _. GoesOverRows shaped.now.input.mat.cols shaped.now.system.tool (user_of shaped.now)
+        times (rows_in grid.now) walk.old walk.new) }
     ensures state { IfOk result (λ _. IsOpen (width shaped.now.system.equations) walk.new) }
     ensures few { IfOk result (λ _. walk.new.terms ≤ walk.old.terms + 4194304) }
 {
@@ -247,7 +248,8 @@ fn take_second(
     requires sound { AllByRecursion (AreSound (user_of shaped.now)) (second_part second.now) }
     requires state { IsOpen (width shaped.now.system.equations) walk.old }
     requires room { walk.old.terms ≤ 4194304 }
-    ensures goes { IfOk result (λ _. GoesOverParts shaped.now.input.mat.cols shaped.now.system.tool (user_of shaped.now)
+    ensures goes { IfOk result
+        (λ _. GoesOverParts shaped.now.input.mat.cols shaped.now.system.tool (user_of shaped.now)
         (second_part second.now) walk.old walk.new) }
     ensures state { IfOk result (λ _. IsOpen (width shaped.now.system.equations) walk.new) }
 {
@@ -262,9 +264,11 @@ fn start(alloc: Global, shaped: &Shaped, point: &Grid) -> Result<Walk, AllocErro
     requires read { IsRead shaped.now }
     requires width { point.now.cols ≡ shaped.now.input.mat.cols }
     requires row { point.now.rows ≡ 1 }
-    requires sound { AllByRecursion (IsSound (user_of shaped.now) (times_of shaped.now.system.tool)) (rows_in point.now) }
+    requires sound { AllByRecursion (IsSound (user_of shaped.now) (times_of shaped.now.system.tool))
+        (rows_in point.now) }
     ensures start { IfOk result (IsStart
-        (full_vector (user_of shaped.now) (times_of shaped.now.system.tool) (slice_index_or (rows_in point.now) 0 []))) }
+        (full_vector (user_of shaped.now) (times_of shaped.now.system.tool)
+        (slice_index_or (rows_in point.now) 0 []))) }
     ensures state { IfOk result (IsOpen (width shaped.now.system.equations)) }
 {
     let mut rest = Vec::new(alloc);
@@ -288,7 +292,8 @@ pub(crate) fn walk_over(alloc: Global, shaped: &Shaped, sets: &Sets) -> Result<W
     requires shape { AreInShape shaped.now.input.mat.cols sets.now }
     requires first { sets.now.first.rows ≤ 2097152 }
     requires second { IfSome sets.now.second (λ grid. grid.rows ≤ 2097152) }
-    requires sound { AllByRecursion (AreSound (user_of shaped.now)) (all_parts shaped.now.system.tool sets.now) }
+    requires sound { AllByRecursion (AreSound (user_of shaped.now))
+        (all_parts shaped.now.system.tool sets.now) }
     ensures walked { IfOk result (Walked shaped.now sets.now) }
 {
     let mut walk = start(alloc, shaped, &sets.point)?;

@@ -88,13 +88,23 @@ pub record Ruled (p : Plan) (s : State S View) : Type 0 where
       → total_of (drawn_of x) s.views ≡ once_below x (min (slice_index s.words 0) p.blocks)
   pub weights : total_of weight_of s.views ≡ p.passes
   pub room : slice_index s.words 0 + total_of open_weight s.views ≤ p.blocks + p.passes
-  pub each : (i : ℕ) (v : View) → get_elem? s.views i ≡ some v → HoldsOfPass p (slice_index s.words 0) v
+  pub each : (i : ℕ) (v : View) → get_elem? s.views i ≡ some v
+      → HoldsOfPass p (slice_index s.words 0) v
   pub turn : Turned p (slice_index s.words 1) s.homes s.views
 
 -- ---- what the steps do to a pass
 -- the one pass of a new board
 abbrev pub starting : Plan → View
-starting p = record { weight = p.passes; done = false; holding = false; found = []; drawn = []; kept = []; missed = 0; plan = p }
+starting p = record {
+  weight = p.passes;
+  done = false;
+  holding = false;
+  found = [];
+  drawn = [];
+  kept = [];
+  missed = 0;
+  plan = p;
+}
 
 -- it has drawn block n
 abbrev pub gained : View → ℕ → View
@@ -109,7 +119,16 @@ abbrev pub shrunk : View → View
 shrunk v = record v { weight = v.weight - 1 }
 
 abbrev pub single : View → View
-single v = record { weight = 1; done = v.done; holding = false; found = []; drawn = []; kept = []; missed = 0; plan = v.plan }
+single v = record {
+  weight = 1;
+  done = v.done;
+  holding = false;
+  found = [];
+  drawn = [];
+  kept = [];
+  missed = 0;
+  plan = v.plan;
+}
 
 -- two passes are one
 abbrev pub joined : View → View → View

@@ -83,7 +83,8 @@ abbrev pub GivesShow : Type 0
 GivesShow =
     (p : Plan) (s : State S View) (c : CoreState) (id : ℕ) (v : View) (b : BookValue)
     → Showing p s c id v
-    → v.weight ≡ 1 → MayGive v b.blocks → ((x : ℕ) → times x v.kept + times x (past v.found b.blocks) ≡ times x v.drawn)
+    → v.weight ≡ 1 → MayGive v b.blocks
+    → ((x : ℕ) → times x v.kept + times x (past v.found b.blocks) ≡ times x v.drawn)
     → (q : ℕ) × MayCome c (Put q)
     × Shows p (stepped s 1 0 id ((0, Some b) ∷ []) (giving v b.blocks) gives) (after_put c q)
 
@@ -103,7 +104,11 @@ SplitsShow =
     → Showing p s c id v
     → 2 ≤ v.weight
     → v.drawn ≡ []
-    → Shows p (record { words = s.words; homes = s.homes; views = slice_set s.views id (shrunk v) ++ single v ∷ [] }) c
+    → Shows p (record {
+      words = s.words;
+      homes = s.homes;
+      views = slice_set s.views id (shrunk v) ++ single v ∷ [];
+    }) c
 
 -- joining two passes shows the same state
 abbrev pub JoinsShow : Type 0
@@ -111,7 +116,11 @@ JoinsShow =
     (p : Plan) (s : State S View) (c : CoreState) (id : ℕ) (v : View) (other : ℕ) (w : View)
     → Showing p s c id v
     → other ≢ id → get_elem? s.views other ≡ some w
-    → Shows p (record { words = s.words; homes = s.homes; views = slice_set (slice_set s.views id (joined v w)) other spent_view }) c
+    → Shows p (record {
+      words = s.words;
+      homes = s.homes;
+      views = slice_set (slice_set s.views id (joined v w)) other spent_view;
+    }) c
 
 -- ---- the end
 -- a put for each pass that holds blocks, from pass q on, and then the close
@@ -126,4 +135,5 @@ abbrev pub ClosesShow : Type 0
 ClosesShow =
     (p : Plan) (s : State S View) (c : CoreState) (id : ℕ) (v : View) → Showing p s c id v
     → 0 < v.weight → v.weight ≡ p.passes → v.done ≡ true
-    → (t : CoreState) × Runs c (closing_events 0 c.held) t × (t.closed ≡ true) × ((x : ℕ) → times x t.book ≡ once_below x p.blocks)
+    → (t : CoreState) × Runs c (closing_events 0 c.held) t × (t.closed ≡ true)
+    × ((x : ℕ) → times x t.book ≡ once_below x p.blocks)

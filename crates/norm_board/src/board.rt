@@ -43,7 +43,8 @@ impl<'s> Board<'s> {
     /// The number of blocks.
     pub fn blocks(&self) -> u64
         ensures blocks { result ≡ self.now.plan.blocks }
-        ensures stage { result ≡ blocks_of (pair_count self.now.plan.stage.value self.now.plan.norm) }
+        ensures stage { result
+            ≡ blocks_of (pair_count self.now.plan.stage.value self.now.plan.norm) }
     {
         self.plan.blocks
     }

@@ -104,9 +104,12 @@ impl Book {
     pub fn take_in(&mut self, other: &mut Book) -> Result<(), AllocError>
         requires { IsAlike self.old other.old }
         ensures alike { IsAlike self.new self.old × IsAlike other.new other.old }
-        ensures ok { OnOk result ((self.new.blocks ≡ self.old.blocks ++ other.old.blocks) × (other.new.blocks ≡ []) × (other.new.rows ≡ [])) }
+        ensures ok { OnOk result
+            ((self.new.blocks ≡ self.old.blocks ++ other.old.blocks) × (other.new.blocks ≡ [])
+            × (other.new.rows ≡ [])) }
         ensures err { OnErr result (IsSame self.new self.old × IsSame other.new other.old) }
-        ensures room { (self.new.room ≡ true → self.old.room ≡ true) × (other.new.room ≡ true → other.old.room ≡ true) }
+        ensures room { (self.new.room ≡ true → self.old.room ≡ true)
+            × (other.new.room ≡ true → other.old.room ≡ true) }
     {
         if self.rows.len() > u32::MAX - other.rows.len() {
             return Err(AllocError);

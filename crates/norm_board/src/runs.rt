@@ -44,7 +44,8 @@ fn add_run(runs: &mut Vec<Run>, run: Run)
     requires room { vec_len runs.old < vec_capacity runs.old }
     requires low { AllByRecursion IsRun runs.old.items }
     requires run { IsRun run }
-    ensures numbers { numbers_of runs.new.items ≡ numbers_of runs.old.items ++ count_up run.first run.count }
+    ensures numbers { numbers_of runs.new.items ≡ numbers_of runs.old.items
+        ++ count_up run.first run.count }
     ensures low { AllByRecursion IsRun runs.new.items }
     ensures len { vec_len runs.new ≤ vec_len runs.old + 1 }
     ensures capacity { vec_capacity runs.new ≡ vec_capacity runs.old }

@@ -84,7 +84,9 @@ impl<'s> Turn<'s> {
     pub fn fill(&mut self, share: &mut Share<'s>) -> Result<(), AllocError>
         requires { IsAlike self.old share.old }
         ensures alike { IsAlike self.new self.old × IsAlike share.new share.old }
-        ensures ok { OnOk result ((self.new.blocks ≡ self.old.blocks ++ share.old.blocks) × (share.new.blocks ≡ []) × (share.new.rows ≡ [])) }
+        ensures ok { OnOk result
+            ((self.new.blocks ≡ self.old.blocks ++ share.old.blocks) × (share.new.blocks ≡ [])
+            × (share.new.rows ≡ [])) }
         ensures err { OnErr result (IsSame self.new self.old × IsSame share.new share.old) }
     {
         self.book.take_in(&mut share.book)
@@ -140,7 +142,9 @@ impl<'s> Share<'s> {
         requires alike { IsAlike self.old other.old }
         requires apart { (x : ℕ) → times x self.old.blocks + times x other.old.blocks ≤ 1 }
         ensures alike { IsAlike self.new self.old × IsAlike other.new other.old }
-        ensures ok { OnOk result ((self.new.blocks ≡ self.old.blocks ++ other.old.blocks) × (other.new.blocks ≡ []) × (other.new.rows ≡ [])) }
+        ensures ok { OnOk result
+            ((self.new.blocks ≡ self.old.blocks ++ other.old.blocks) × (other.new.blocks ≡ [])
+            × (other.new.rows ≡ [])) }
         ensures err { OnErr result (IsSame self.new self.old × IsSame other.new other.old) }
     {
         self.book.take_in(&mut other.book)

@@ -75,10 +75,22 @@ with_used u p =
     record { number = p.number; norm = p.norm; used = u; listed = p.listed; waiting = p.waiting }
 
 abbrev pub with_listed : List ℤ → Progress → Progress
-with_listed z p = record { number = p.number; norm = p.norm; used = p.used; listed = p.listed ++ z ∷ []; waiting = p.waiting }
+with_listed z p = record {
+  number = p.number;
+  norm = p.norm;
+  used = p.used;
+  listed = p.listed ++ z ∷ [];
+  waiting = p.waiting;
+}
 
 abbrev pub with_waiting : List ℤ → Progress → Progress
-with_waiting z p = record { number = p.number; norm = p.norm; used = p.used; listed = p.listed; waiting = p.waiting ++ z ∷ [] }
+with_waiting z p = record {
+  number = p.number;
+  norm = p.norm;
+  used = p.used;
+  listed = p.listed;
+  waiting = p.waiting ++ z ∷ [];
+}
 
 -- ---- what may stand in a line
 -- a text of the first version has no caps, so it stands for a system without caps on the user's columns alone
@@ -157,7 +169,8 @@ HasNoStageRow S k line l f =
 abbrev pub HasRowFault : ToolSystem → ℕ → (List ℤ → Type 0) → List ℕ → ℕ → RestartFault → Type 0
 HasRowFault S k IsNext line l f =
     HasNoStageRow S k line l f
-    ⊎ ((f ≡ Order l) × ((z : List ℤ) × IsRow S line z × IsStageRow S.equations k z × (IsNext z → ⊥)))
+    ⊎ ((f ≡ Order l)
+    × ((z : List ℤ) × IsRow S line z × IsStageRow S.equations k z × (IsNext z → ⊥)))
 
 -- line l is wrong, and this is its first fault
 abbrev pub HasFault : ToolSystem → Version → Due → Progress → List ℕ → ℕ → RestartFault → Type 0
@@ -176,7 +189,8 @@ HasFault S v (ListedRow left) p line l f = HasRowFault S p.number (IsNextListed 
 HasFault S v ClassesLine p line l f =
     ((f ≡ Text l) × ((ns : List ℕ) → AreCounts (codes "classes ") (2 ^ 21) line ns → ⊥))
     ⊎ ((f ≡ Classes l)
-    × ((ns : List ℕ) × AreCounts (codes "classes ") (2 ^ 21) line ns × (ns ≢ class_counts p.listed)))
+    × ((ns : List ℕ) × AreCounts (codes "classes ") (2 ^ 21) line ns
+    × (ns ≢ class_counts p.listed)))
 HasFault S v WaitingLine p line l f =
     (f ≡ Text l) × ((n : ℕ) → IsCount (codes "waiting ") (2 ^ 21) line n → ⊥)
 HasFault S v (WaitingRow left) p line l f = HasRowFault S p.number (IsNextWaiting p) line l f
@@ -184,7 +198,8 @@ HasFault S v LastLine p line l f = ⊥
 
 -- ---- the whole
 -- from line l on the bytes are read to the end of the text, or to its first fault
-pub data ReadsToEnd (S : ToolSystem) : Cursor → ℕ → List ℕ → Result Progress RestartFault → Type 0 where
+pub data ReadsToEnd (S : ToolSystem) : Cursor → ℕ → List ℕ → Result Progress RestartFault
+    → Type 0 where
   reads_on :
       {c next : Cursor} {l : ℕ} {bytes line rest : List ℕ} {out : Result Progress RestartFault}
       → IsLine line

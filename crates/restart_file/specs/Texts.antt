@@ -61,7 +61,13 @@ pub record Progress : Type 0 where
   pub waiting : List (List ℤ)
 
 abbrev pub progress_of : StageValue → Progress
-progress_of s = record { number = s.number; norm = s.norm; used = used_of s; listed = s.listed; waiting = s.waiting }
+progress_of s = record {
+  number = s.number;
+  norm = s.norm;
+  used = used_of s;
+  listed = s.listed;
+  waiting = s.waiting;
+}
 
 -- the lines of the system
 abbrev pub system_lines : Version → ToolSystem → List (List ℕ)

@@ -43,7 +43,8 @@ fn class_of(row: &[i64]) -> usize
 pub(crate) fn add_class(counts: &mut [u64; 3], row: &[i64])
     requires some { 0 < length row.now }
     requires small { All (λ n. n < 2 ^ 32) counts.old }
-    ensures { (rows : List (List ℤ)) → counts.old ≡ class_counts rows → counts.new ≡ class_counts (rows ++ row.now ∷ []) }
+    ensures { (rows : List (List ℤ)) → counts.old ≡ class_counts rows
+        → counts.new ≡ class_counts (rows ++ row.now ∷ []) }
 {
     counts[class_of(row)] += 1;
 }

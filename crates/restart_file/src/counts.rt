@@ -35,7 +35,8 @@ fn counts_in(
 ) -> Result<bool, AllocError>
     requires { length counts.old ≤ 3 }
     ensures sound { IfOk result (λ is. IsTrue is → line.now ≡ counts_line word.now counts.new) }
-    ensures complete { (ns : List ℕ) → length ns ≡ length counts.old → AllByRecursion (λ n. n ≤ largest) ns
+    ensures complete { (ns : List ℕ) → length ns ≡ length counts.old
+        → AllByRecursion (λ n. n ≤ largest) ns
         → line.now ≡ counts_line word.now ns → IfOk result (λ is. IsTrue is × (counts.new ≡ ns)) }
     ensures same { length counts.new ≡ length counts.old }
     ensures small { IfOk result (λ is. IsTrue is → AllByRecursion (λ n. n ≤ largest) counts.new) }
@@ -56,7 +57,9 @@ pub(crate) fn count_in(
     text: &mut Vec<u8>,
 ) -> Result<Option<u64>, AllocError>
     requires { most ≤ largest }
-    ensures { IfOk result (λ o. MatchOption o ((n : ℕ) → IsCount word.now most line.now n → ⊥) (λ n. IsCount word.now most line.now n)) }
+    ensures { IfOk result
+        (λ o. MatchOption o ((n : ℕ) → IsCount word.now most line.now n → ⊥)
+        (λ n. IsCount word.now most line.now n)) }
 {
     let mut counts = [0u64; 1];
     if !counts_in(line, word, &mut counts, text)? {
@@ -71,7 +74,8 @@ pub(crate) fn count_in(
 // The stage and the norm, where they are a place of the system.
 fn place_of(system: &System, k: u64, d: u64) -> Option<(u32, u64)>
     requires { d ≤ largest }
-    ensures { MatchOption result (IsStagePlace system.now k d → ⊥) (λ p. IsStagePlace system.now k d × ((p.0 ≡ k) × (p.1 ≡ d))) }
+    ensures { MatchOption result (IsStagePlace system.now k d → ⊥)
+        (λ p. IsStagePlace system.now k d × ((p.0 ≡ k) × (p.1 ≡ d))) }
 {
     if k < 1 || d < 1 {
         return None;
@@ -88,7 +92,8 @@ pub(crate) fn place_in(
     system: &System,
     text: &mut Vec<u8>,
 ) -> Result<Option<(u32, u64)>, AllocError>
-    ensures { IfOk result (λ o. MatchOption o ((k d : ℕ) → IsStagePlace system.now k d → line.now ≢ is_place_line k d)
+    ensures { IfOk result
+        (λ o. MatchOption o ((k d : ℕ) → IsStagePlace system.now k d → line.now ≢ is_place_line k d)
         (λ p. IsStagePlace system.now p.0 p.1 × (line.now ≡ is_place_line p.0 p.1))) }
 {
     system.keeps();
@@ -118,7 +123,8 @@ pub(crate) fn classes_in(
     text: &mut Vec<u8>,
 ) -> Result<Option<[u64; 3]>, AllocError>
     requires { most ≤ largest }
-    ensures { IfOk result (λ o. MatchOption o ((ns : List ℕ) → AreCounts (codes "classes ") most line.now ns → ⊥)
+    ensures { IfOk result
+        (λ o. MatchOption o ((ns : List ℕ) → AreCounts (codes "classes ") most line.now ns → ⊥)
         (λ ns. AreCounts (codes "classes ") most line.now ns)) }
 {
     let mut counts = [0u64; 3];

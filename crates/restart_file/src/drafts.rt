@@ -67,7 +67,8 @@ pub(crate) fn bad_text(l: u64) -> RestartEnd
 
 // The version of a first line.
 fn version_in(line: &[u8]) -> Option<Version>
-    ensures { MatchOption result ((u : Version) → line.now ≢ version_line u) (λ u. line.now ≡ version_line u) }
+    ensures { MatchOption result ((u : Version) → line.now ≢ version_line u)
+        (λ u. line.now ≡ version_line u) }
 {
     if line == version_text(Version::First) {
         Some(Version::First)
@@ -80,7 +81,8 @@ fn version_in(line: &[u8]) -> Option<Version>
 
 // Whether none of the user's columns has a cap.
 fn has_no_caps(system: &System) -> bool
-    ensures { IsTrue result ↔ AllByRecursion (λ c. c ≡ None) (take system.now.n system.now.equations.caps) }
+    ensures { IsTrue result
+        ↔ AllByRecursion (λ c. c ≡ None) (take system.now.n system.now.equations.caps) }
 {
     system.keeps();
     for j in 0..system.n() {
@@ -152,7 +154,8 @@ fn classes_of(rows: &Pool) -> [u64; 3]
 
 // Takes the line of the version.
 fn take_version(draft: &mut Draft, system: &System, l: u64, line: &[u8]) -> Result<(), RestartEnd>
-    ensures steps { TakesLine system.now draft.old.version FirstLine (progress_in draft.old) line.now l (cursor_of draft.new) result }
+    ensures steps { TakesLine system.now draft.old.version FirstLine
+        (progress_in draft.old) line.now l (cursor_of draft.new) result }
     ensures widths { HasWidths system.now draft.old → HasWidths system.now draft.new }
 {
     let Some(version) = version_in(line) else {
@@ -176,7 +179,8 @@ fn take_system(
     text: &mut Vec<u8>,
 ) -> Result<(), RestartEnd>
     requires { i < length (system_lines draft.old.version system.now) }
-    ensures steps { TakesLine system.now draft.old.version (SystemLine i) (progress_in draft.old) line.now l (cursor_of draft.new) result }
+    ensures steps { TakesLine system.now draft.old.version (SystemLine i)
+        (progress_in draft.old) line.now l (cursor_of draft.new) result }
     ensures widths { HasWidths system.now draft.old → HasWidths system.now draft.new }
 {
     text.clear();
@@ -196,7 +200,8 @@ fn take_place(
     line: &[u8],
     text: &mut Vec<u8>,
 ) -> Result<(), RestartEnd>
-    ensures steps { TakesLine system.now draft.old.version PlaceLine (progress_in draft.old) line.now l (cursor_of draft.new) result }
+    ensures steps { TakesLine system.now draft.old.version PlaceLine
+        (progress_in draft.old) line.now l (cursor_of draft.new) result }
     ensures widths { HasWidths system.now draft.old → HasWidths system.now draft.new }
 {
     let Some((number, norm)) = place_in(line, system, text)? else {
@@ -216,7 +221,8 @@ fn take_used(
     line: &[u8],
     text: &mut Vec<u8>,
 ) -> Result<(), RestartEnd>
-    ensures steps { TakesLine system.now draft.old.version UsedLine (progress_in draft.old) line.now l (cursor_of draft.new) result }
+    ensures steps { TakesLine system.now draft.old.version UsedLine
+        (progress_in draft.old) line.now l (cursor_of draft.new) result }
     ensures widths { HasWidths system.now draft.old → HasWidths system.now draft.new }
 {
     let _ = system.count();
@@ -236,7 +242,8 @@ fn take_listed_count(
     line: &[u8],
     text: &mut Vec<u8>,
 ) -> Result<(), RestartEnd>
-    ensures steps { TakesLine system.now draft.old.version ListedLine (progress_in draft.old) line.now l (cursor_of draft.new) result }
+    ensures steps { TakesLine system.now draft.old.version ListedLine
+        (progress_in draft.old) line.now l (cursor_of draft.new) result }
     ensures widths { HasWidths system.now draft.old → HasWidths system.now draft.new }
 {
     let _ = system.count();
@@ -256,7 +263,8 @@ fn take_classes(
     text: &mut Vec<u8>,
 ) -> Result<(), RestartEnd>
     requires widths { HasWidths system.now draft.old }
-    ensures steps { TakesLine system.now draft.old.version ClassesLine (progress_in draft.old) line.now l (cursor_of draft.new) result }
+    ensures steps { TakesLine system.now draft.old.version ClassesLine
+        (progress_in draft.old) line.now l (cursor_of draft.new) result }
     ensures widths { HasWidths system.now draft.new }
 {
     let _ = system.count();
@@ -278,7 +286,8 @@ fn take_waiting_count(
     line: &[u8],
     text: &mut Vec<u8>,
 ) -> Result<(), RestartEnd>
-    ensures steps { TakesLine system.now draft.old.version WaitingLine (progress_in draft.old) line.now l (cursor_of draft.new) result }
+    ensures steps { TakesLine system.now draft.old.version WaitingLine
+        (progress_in draft.old) line.now l (cursor_of draft.new) result }
     ensures widths { HasWidths system.now draft.old → HasWidths system.now draft.new }
 {
     let _ = system.count();
@@ -324,7 +333,8 @@ fn take_listed(
     requires widths { HasWidths system.now draft.old }
     requires sound { IsTrueSoFar system.now (cursor_of draft.old) }
     requires due { draft.old.due ≡ ListedRow left }
-    ensures steps { TakesLine system.now draft.old.version (ListedRow left) (progress_in draft.old) line.now l (cursor_of draft.new) result }
+    ensures steps { TakesLine system.now draft.old.version (ListedRow left)
+        (progress_in draft.old) line.now l (cursor_of draft.new) result }
     ensures widths { HasWidths system.now draft.new }
 {
     let mut room = [0i64; 130];
@@ -350,7 +360,8 @@ fn take_waiting(
     requires widths { HasWidths system.now draft.old }
     requires sound { IsTrueSoFar system.now (cursor_of draft.old) }
     requires due { draft.old.due ≡ WaitingRow left }
-    ensures steps { TakesLine system.now draft.old.version (WaitingRow left) (progress_in draft.old) line.now l (cursor_of draft.new) result }
+    ensures steps { TakesLine system.now draft.old.version (WaitingRow left)
+        (progress_in draft.old) line.now l (cursor_of draft.new) result }
     ensures widths { HasWidths system.now draft.new }
 {
     let mut room = [0i64; 130];
@@ -375,7 +386,8 @@ pub(crate) fn take_line(
     requires widths { HasWidths system.now draft.old }
     requires sound { IsTrueSoFar system.now (cursor_of draft.old) }
     requires due { draft.old.due ≢ LastLine }
-    ensures steps { TakesLine system.now draft.old.version draft.old.due (progress_in draft.old) line.now l (cursor_of draft.new) result }
+    ensures steps { TakesLine system.now draft.old.version draft.old.due
+        (progress_in draft.old) line.now l (cursor_of draft.new) result }
     ensures widths { HasWidths system.now draft.new }
 {
     match draft.due {

@@ -126,7 +126,9 @@ fn push_caps(line: &mut Vec<u8>, system: &System) -> Result<(), AllocError>
 // Adds the line of a row of the system, numbered from 0.
 fn push_row(line: &mut Vec<u8>, system: &System, i: u32) -> Result<(), AllocError>
     requires { i < length system.now.equations.rows }
-    ensures { OnOk result (line.new.items ≡ line.old.items ++ row_line (slice_index_or system.now.equations.rows i [])) }
+    ensures { OnOk result
+        (line.new.items ≡ line.old.items
+        ++ row_line (slice_index_or system.now.equations.rows i [])) }
 {
     system.keeps();
     push_cells(line, b"row ", system.row(i + 1))
@@ -151,7 +153,8 @@ pub(crate) fn push_system_line(
     i: u32,
 ) -> Result<(), AllocError>
     requires { i < length (system_lines version system.now) }
-    ensures { OnOk result (line.new.items ≡ line.old.items ++ slice_index_or (system_lines version system.now) i []) }
+    ensures { OnOk result
+        (line.new.items ≡ line.old.items ++ slice_index_or (system_lines version system.now) i []) }
 {
     match i {
         0 => line.extend_from_slice(tool_text(system.tool())),
@@ -175,7 +178,9 @@ pub(crate) fn push_system_line(
 
 // Adds the last line, of this digest.
 pub(crate) fn push_digest(line: &mut Vec<u8>, digest: &[u8; 32]) -> Result<(), AllocError>
-    ensures { OnOk result (line.new.items ≡ line.old.items ++ (codes "digest " ++ encode_lower digest.now ++ 10 ∷ [])) }
+    ensures { OnOk result
+        (line.new.items ≡ line.old.items
+        ++ (codes "digest " ++ encode_lower digest.now ++ 10 ∷ [])) }
 {
     let mut digits = [0u8; 64];
     encode_to_slice(digest.as_slice(), &mut digits).unwrap();

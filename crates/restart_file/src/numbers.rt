@@ -68,7 +68,8 @@ fn behind_first(text: &[u8]) -> &[u8]
 
 // The cells of the text, where it is the line of so many cells.
 fn guess(text: &[u8], cells: &mut [i64])
-    ensures cells { (zs : List ℤ) → length zs ≡ length cells.old → AllByRecursion InRange zs → text.now ≡ line_of zs → cells.new ≡ zs }
+    ensures cells { (zs : List ℤ) → length zs ≡ length cells.old → AllByRecursion InRange zs
+        → text.now ≡ line_of zs → cells.new ≡ zs }
     ensures range { All InRange cells.new }
 {
     let mut rest = text;

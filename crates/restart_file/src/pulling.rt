@@ -46,7 +46,8 @@ fn read_into<F: Folder>(
     ensures same { F.held folder.new ≡ F.held folder.old }
     ensures length { length storage.new.items ≡ length storage.old.items }
     ensures within { IfOk result (λ n. n ≤ length storage.new.items) }
-    ensures bytes { (text : List ℕ) → TellsText (F.held folder.old) name.now text → IfOk result (λ n. ReadsFrom text at n storage.new.items) }
+    ensures bytes { (text : List ℕ) → TellsText (F.held folder.old) name.now text
+        → IfOk result (λ n. ReadsFrom text at n storage.new.items) }
     ensures cause { HasCause (F.faults folder.old) (F.faults folder.new) result }
 {
     folder.read(name, at, storage.as_mut_slice())
@@ -59,7 +60,8 @@ pub(crate) fn refill<F: Folder>(
     name: &str,
 ) -> Result<(), PutEnd>
     ensures same { F.held folder.new ≡ F.held folder.old }
-    ensures left { (text rest : List ℕ) → TellsText (F.held folder.old) name.now text → IsTextLeft text window.old rest →
+    ensures left { (text rest : List ℕ) → TellsText (F.held folder.old) name.now text
+        → IsTextLeft text window.old rest →
         OnOk result (IsTextLeft text window.new rest × (window.new.from ≡ window.new.filled → rest ≡ [])) }
     ensures cause { HasCause (F.faults folder.old) (F.faults folder.new) result }
 {
@@ -81,7 +83,8 @@ fn next_byte<F: Folder>(
     name: &str,
 ) -> Result<Option<u8>, PutEnd>
     ensures same { F.held folder.new ≡ F.held folder.old }
-    ensures byte { (text rest : List ℕ) → TellsText (F.held folder.old) name.now text → IsTextLeft text window.old rest →
+    ensures byte { (text rest : List ℕ) → TellsText (F.held folder.old) name.now text
+        → IsTextLeft text window.old rest →
         IfOk result (λ o. GivesByte text window.new rest o) }
     ensures cause { HasCause (F.faults folder.old) (F.faults folder.new) result }
 {
@@ -102,7 +105,8 @@ pub(crate) fn next_line<F: Folder>(
     line: &mut Vec<u8>,
 ) -> Result<bool, PutEnd>
     ensures same { F.held folder.new ≡ F.held folder.old }
-    ensures line { (text rest : List ℕ) → TellsText (F.held folder.old) name.now text → IsTextLeft text window.old rest →
+    ensures line { (text rest : List ℕ) → TellsText (F.held folder.old) name.now text
+        → IsTextLeft text window.old rest →
         IfOk result (λ is. GivesLine text window.new rest line.new.items is) }
     ensures cause { HasCause (F.faults folder.old) (F.faults folder.new) result }
 {
@@ -128,7 +132,8 @@ pub(crate) fn next_bytes<F: Folder>(
     bytes: &mut Vec<u8>,
 ) -> Result<(), PutEnd>
     ensures same { F.held folder.new ≡ F.held folder.old }
-    ensures bytes { (text rest : List ℕ) → TellsText (F.held folder.old) name.now text → IsTextLeft text window.old rest →
+    ensures bytes { (text rest : List ℕ) → TellsText (F.held folder.old) name.now text
+        → IsTextLeft text window.old rest →
         OnOk result (bytes.new.items ≡ take len rest) }
     ensures cause { HasCause (F.faults folder.old) (F.faults folder.new) result }
 {

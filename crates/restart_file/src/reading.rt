@@ -45,7 +45,8 @@ fn read_line<F: Folder>(
     requires sound { IsTrueSoFar system.now (cursor_of draft.old) }
     requires due { draft.old.due ≢ LastLine }
     ensures same { F.held folder.new ≡ F.held folder.old }
-    ensures line { (text rest : List ℕ) → TellsText (F.held folder.old) name.now text → IsTextLeft text window.old rest →
+    ensures line { (text rest : List ℕ) → TellsText (F.held folder.old) name.now text
+        → IsTextLeft text window.old rest →
         ReadsLine system.now text rest window.new (cursor_of draft.old) (cursor_of draft.new) l result }
     ensures widths { HasWidths system.now draft.new }
     ensures sound { OnOk result (IsTrueSoFar system.now (cursor_of draft.new)) }
@@ -89,8 +90,8 @@ fn read_lines<F: Folder>(
 ) -> Result<Draft, RestartEnd>
     requires { size < 2 ^ 61 }
     ensures same { F.held folder.new ≡ F.held folder.old }
-    ensures to { (text : List ℕ) → TellsText (F.held folder.old) name.now text → size ≡ length text →
-        ReadsTo system.now start 1 text result }
+    ensures to { (text : List ℕ) → TellsText (F.held folder.old) name.now text
+        → size ≡ length text → ReadsTo system.now start 1 text result }
     ensures whole { IfOk result (λ d. IsAllRead system.now d) }
     ensures cause { HasRestartCause (F.faults folder.old) (F.faults folder.new) result }
 {
@@ -141,7 +142,8 @@ pub fn read_restart<F: Folder>(
     folder: &mut F,
     name: &str,
 ) -> Result<Stage, RestartEnd>
-    ensures found { IfSome (F.held folder.old) (λ files. Restores system.now (get files name.now) result) }
+    ensures found { IfSome (F.held folder.old)
+        (λ files. Restores system.now (get files name.now) result) }
     ensures same { F.held folder.new ≡ F.held folder.old }
     ensures cause { HasRestartCause (F.faults folder.old) (F.faults folder.new) result }
 {

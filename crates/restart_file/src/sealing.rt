@@ -23,7 +23,8 @@ const TOO_LONG: u64 = 2_305_843_009_213_693_952;
 // Hashes so many bytes from a place on.
 fn hash_bytes(hasher: &mut Sha256, bytes: &[u8], from: usize, count: usize)
     requires { from + count ≤ length bytes.now }
-    ensures { (m : List ℕ) → Holds256 hasher.old m → Holds256 hasher.new (m ++ take count (drop from bytes.now)) }
+    ensures { (m : List ℕ) → Holds256 hasher.old m
+        → Holds256 hasher.new (m ++ take count (drop from bytes.now)) }
 {
     hasher.update(&bytes[from..from + count]);
 }
@@ -38,7 +39,8 @@ fn hash_piece<F: Folder>(
 ) -> Result<u64, PutEnd>
     ensures same { F.held folder.new ≡ F.held folder.old }
     ensures within { IfOk result (λ n. n ≤ most) }
-    ensures hashed { (text : List ℕ) (done : ℕ) → TellsText (F.held folder.old) name.now text → IsHashed text window.old hasher.old done →
+    ensures hashed { (text : List ℕ) (done : ℕ) → TellsText (F.held folder.old) name.now text
+        → IsHashed text window.old hasher.old done →
         IfOk result (λ n. IsHashed text window.new hasher.new (done + n) × (n ≡ 0 → length text ≤ done ⊎ most ≡ 0)) }
     ensures cause { HasCause (F.faults folder.old) (F.faults folder.new) result }
 {
@@ -57,7 +59,8 @@ fn digest_of<F: Folder>(
     len: u64,
 ) -> Result<[u8; 32], PutEnd>
     ensures same { F.held folder.new ≡ F.held folder.old }
-    ensures digest { (text : List ℕ) → TellsText (F.held folder.old) name.now text → IsTextLeft text window.old text → len ≤ length text →
+    ensures digest { (text : List ℕ) → TellsText (F.held folder.old) name.now text
+        → IsTextLeft text window.old text → len ≤ length text →
         IfOk result (λ digest. (digest ≡ sha256 (take len text)) × IsTextLeft text window.new (drop len text)) }
     ensures cause { HasCause (F.faults folder.old) (F.faults folder.new) result }
 {
@@ -88,7 +91,8 @@ pub(crate) fn is_sealed<F: Folder>(
     size: u64,
 ) -> Result<bool, PutEnd>
     ensures same { F.held folder.new ≡ F.held folder.old }
-    ensures sealed { (text : List ℕ) → TellsText (F.held folder.old) name.now text → size ≡ length text →
+    ensures sealed { (text : List ℕ) → TellsText (F.held folder.old) name.now text
+        → size ≡ length text →
         IfOk result (λ is. IsTrue is ↔ IsSealed text) }
     ensures short { IfOk result (λ is. IsTrue is → size < 2 ^ 61) }
     ensures cause { HasCause (F.faults folder.old) (F.faults folder.new) result }

@@ -35,7 +35,9 @@ fn class_counts(stage: &Stage) -> [u64; 3]
 // Adds a line of the listed rows or behind them, numbered from 0.
 fn push_listed_line(line: &mut Vec<u8>, stage: &Stage, i: u32) -> Result<(), AllocError>
     requires { i < length (listed_lines Version.Second (progress_of stage.now)) }
-    ensures { OnOk result (line.new.items ≡ line.old.items ++ slice_index_or (listed_lines Version.Second (progress_of stage.now)) i []) }
+    ensures { OnOk result
+        (line.new.items ≡ line.old.items
+        ++ slice_index_or (listed_lines Version.Second (progress_of stage.now)) i []) }
 {
     let listed = stage.len();
     if i < listed {
@@ -51,7 +53,9 @@ fn push_listed_line(line: &mut Vec<u8>, stage: &Stage, i: u32) -> Result<(), All
 // Adds a line of the place or behind it, numbered from 0.
 fn push_place_line(line: &mut Vec<u8>, stage: &Stage, i: u32) -> Result<(), AllocError>
     requires { i < length (place_lines Version.Second (progress_of stage.now)) }
-    ensures { OnOk result (line.new.items ≡ line.old.items ++ slice_index_or (place_lines Version.Second (progress_of stage.now)) i []) }
+    ensures { OnOk result
+        (line.new.items ≡ line.old.items
+        ++ slice_index_or (place_lines Version.Second (progress_of stage.now)) i []) }
 {
     match i {
         0 => push_counts(line, b"place ", &[u64::from(stage.number()), stage.norm()]),
@@ -64,7 +68,10 @@ fn push_place_line(line: &mut Vec<u8>, stage: &Stage, i: u32) -> Result<(), Allo
 // Adds a line of the stage's text, numbered from 0.
 fn push_line(line: &mut Vec<u8>, stage: &Stage, i: u32) -> Result<(), AllocError>
     requires { i < length (restart_lines Version.Second stage.now.system (progress_of stage.now)) }
-    ensures { OnOk result (line.new.items ≡ line.old.items ++ slice_index_or (restart_lines Version.Second stage.now.system (progress_of stage.now)) i []) }
+    ensures { OnOk result
+        (line.new.items ≡ line.old.items
+        ++ slice_index_or
+        (restart_lines Version.Second stage.now.system (progress_of stage.now)) i []) }
 {
     if i == 0 {
         return line.extend_from_slice(version_text(Version::Second));
@@ -80,7 +87,8 @@ fn push_line(line: &mut Vec<u8>, stage: &Stage, i: u32) -> Result<(), AllocError
 
 // The number of lines but the last.
 fn line_count(stage: &Stage) -> u32
-    ensures { result ≡ length (restart_lines Version.Second stage.now.system (progress_of stage.now)) }
+    ensures { result
+        ≡ length (restart_lines Version.Second stage.now.system (progress_of stage.now)) }
 {
     stage.keeps();
     system_line_count(Version::Second, stage.system()) + stage.len() + stage.waiting_len() + 6
@@ -93,10 +101,12 @@ fn send<F: Folder>(
     piece: &mut Vec<u8>,
     hasher: &mut Sha256,
 ) -> Result<(), PutEnd>
-    ensures done { (bytes rest : List ℕ) (before : Option Files) → IsSent name.now bytes (piece.old.items ++ rest) before (F.held folder.old) hasher.old →
+    ensures done { (bytes rest : List ℕ) (before : Option Files)
+        → IsSent name.now bytes (piece.old.items ++ rest) before (F.held folder.old) hasher.old →
         OnOk result (IsSent name.now bytes rest before (F.held folder.new) hasher.new) }
     ensures empty { OnOk result (piece.new.items ≡ []) }
-    ensures refused { (bytes rest : List ℕ) (before : Option Files) → IsSent name.now bytes (piece.old.items ++ rest) before (F.held folder.old) hasher.old →
+    ensures refused { (bytes rest : List ℕ) (before : Option Files)
+        → IsSent name.now bytes (piece.old.items ++ rest) before (F.held folder.old) hasher.old →
         OnErr result (MayWrite name.now (sealed bytes) before (F.held folder.new)) }
     ensures cause { HasCause (F.faults folder.old) (F.faults folder.new) result }
 {
@@ -114,9 +124,11 @@ fn seal<F: Folder>(
     hasher: Sha256,
 ) -> Result<(), PutEnd>
     requires { piece.old.items ≡ [] }
-    ensures done { (bytes : List ℕ) (before : Option Files) → IsSent name.now bytes [] before (F.held folder.old) hasher →
+    ensures done { (bytes : List ℕ) (before : Option Files)
+        → IsSent name.now bytes [] before (F.held folder.old) hasher →
         OnOk result (F.held folder.new ≡ option_map (written name.now (sealed bytes)) before) }
-    ensures refused { (bytes : List ℕ) (before : Option Files) → IsSent name.now bytes [] before (F.held folder.old) hasher →
+    ensures refused { (bytes : List ℕ) (before : Option Files)
+        → IsSent name.now bytes [] before (F.held folder.old) hasher →
         OnErr result (MayWrite name.now (sealed bytes) before (F.held folder.new)) }
     ensures cause { HasCause (F.faults folder.old) (F.faults folder.new) result }
 {
@@ -138,8 +150,11 @@ pub fn write_restart<F: Folder>(
     folder: &mut F,
     name: &str,
 ) -> Result<(), PutEnd>
-    ensures done { OnOk result (F.held folder.new ≡ option_map (written name.now (text_of_stage stage.now)) (F.held folder.old)) }
-    ensures refused { OnErr result (MayWrite name.now (text_of_stage stage.now) (F.held folder.old) (F.held folder.new)) }
+    ensures done { OnOk result
+        (F.held folder.new
+        ≡ option_map (written name.now (text_of_stage stage.now)) (F.held folder.old)) }
+    ensures refused { OnErr result
+        (MayWrite name.now (text_of_stage stage.now) (F.held folder.old) (F.held folder.new)) }
     ensures cause { HasCause (F.faults folder.old) (F.faults folder.new) result }
 {
     folder.begin(name)?;

@@ -20,13 +20,15 @@ abbrev pub SelectedAreWanted : Type 0
 SelectedAreWanted =
     (system : ToolSystem) (finished : List (List ℤ)) (kind : Kind) (rows : List (List ℤ))
     → (system.tool ≡ Graver → ⊥)
-    → AreAllSolutions system finished → IsSelected system finished kind rows → IsWanted system.equations system.n (kind_of kind) rows
+    → AreAllSolutions system finished → IsSelected system finished kind rows
+    → IsWanted system.equations system.n (kind_of kind) rows
 
 -- and for `graver`
 abbrev pub SelectedAreWantedGraver : Type 0
 SelectedAreWantedGraver =
     (system : ToolSystem) (finished : List (List ℤ)) (rows : List (List ℤ)) → system.tool ≡ Graver
-    → AreAllSolutions system finished → IsSelected system finished All rows → IsWantedGraver system.equations system.n rows
+    → AreAllSolutions system finished → IsSelected system finished All rows
+    → IsWantedGraver system.equations system.n rows
 
 -- the text of the grid is the text of its rows
 abbrev pub GridsAreRows : Type 0

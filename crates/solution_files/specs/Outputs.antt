@@ -47,7 +47,8 @@ abbrev pub grid_of : ℕ → List (List ℤ) → Matrix
 grid_of n rows = record { rows = length rows; cols = n; cells = flat_map (λ row. row) rows }
 
 -- the grid has the selected rows, each of n entries
-pub record IsSelection (system : ToolSystem) (finished : List (List ℤ)) (kind : Kind) (grid : Matrix) : Type 0 where
+pub record IsSelection (system : ToolSystem) (finished : List (List ℤ)) (kind : Kind)
+    (grid : Matrix) : Type 0 where
   pub rows : List (List ℤ)
   pub selected : IsSelected system finished kind rows
   pub lengths : AllByRecursion (λ row. length row ≡ system.n) rows

@@ -19,8 +19,11 @@ fn append_line<F: Folder>(
     cells: &[i64],
     line: &mut Vec<u8>,
 ) -> Result<(), PutEnd>
-    ensures done { OnOk result (F.held folder.new ≡ option_map (appended name.now (line_of cells.now)) (F.held folder.old)) }
-    ensures refused { OnErr result (MayAppend name.now (line_of cells.now) (F.held folder.old) (F.held folder.new)) }
+    ensures done { OnOk result
+        (F.held folder.new
+        ≡ option_map (appended name.now (line_of cells.now)) (F.held folder.old)) }
+    ensures refused { OnErr result
+        (MayAppend name.now (line_of cells.now) (F.held folder.old) (F.held folder.new)) }
     ensures cause { HasCause (F.faults folder.old) (F.faults folder.new) result }
 {
     line.clear();
@@ -67,8 +70,10 @@ pub fn write_grid<F: Folder>(
     name: &str,
     grid: &Grid,
 ) -> Result<(), PutEnd>
-    ensures done { OnOk result (F.held folder.new ≡ option_map (written name.now (text_of grid.now)) (F.held folder.old)) }
-    ensures refused { OnErr result (MayWrite name.now (text_of grid.now) (F.held folder.old) (F.held folder.new)) }
+    ensures done { OnOk result
+        (F.held folder.new ≡ option_map (written name.now (text_of grid.now)) (F.held folder.old)) }
+    ensures refused { OnErr result
+        (MayWrite name.now (text_of grid.now) (F.held folder.old) (F.held folder.new)) }
     ensures cause { HasCause (F.faults folder.old) (F.faults folder.new) result }
 {
     folder.begin(name)?;

@@ -57,7 +57,9 @@ fn rows_of_kind<'a>(
     kind: Kind,
 ) -> Result<Vec<&'a [i64]>, AllocError>
     requires { finish.now.rows.width ≡ width finish.now.system.equations }
-    ensures rows { IfOk result (λ rows. rows_behind rows.items ≡ projected finish.now.system.n (kind_of kind) finish.now.rows.rows) }
+    ensures rows { IfOk result
+        (λ rows. rows_behind rows.items
+        ≡ projected finish.now.system.n (kind_of kind) finish.now.rows.rows) }
     ensures shape { IfOk result (λ rows. AreRows finish.now.system.n (rows_behind rows.items)) }
     ensures count { IfOk result (λ rows. length rows.items < 2 ^ 32) }
 {
@@ -122,7 +124,8 @@ fn is_left_out(alloc: Global, rows: &[&[i64]], row: &[i64]) -> Result<bool, Allo
 fn without_negatives<'a>(alloc: Global, rows: &[&'a [i64]]) -> Result<Vec<&'a [i64]>, AllocError>
     requires ascending { IsStrictlySortedBy lex_cmp (rows_behind rows.now) }
     requires range { AllByRecursion (λ row. AllByRecursion InRange row) (rows_behind rows.now) }
-    ensures kept { IfOk result (λ kept. rows_behind kept.items ≡ without_negatives (rows_behind rows.now)) }
+    ensures kept { IfOk result
+        (λ kept. rows_behind kept.items ≡ without_negatives (rows_behind rows.now)) }
     ensures count { IfOk result (λ kept. length kept.items ≤ length rows.now) }
 {
     let mut kept = Vec::new(alloc);
@@ -141,7 +144,8 @@ fn selected_rows<'a>(
     kind: Kind,
 ) -> Result<Vec<&'a [i64]>, AllocError>
     requires { finish.now.rows.width ≡ width finish.now.system.equations }
-    ensures selected { IfOk result (λ rows. IsSelected finish.now.system finish.now.rows.rows kind (rows_behind rows.items)) }
+    ensures selected { IfOk result
+        (λ rows. IsSelected finish.now.system finish.now.rows.rows kind (rows_behind rows.items)) }
     ensures shape { IfOk result (λ rows. AreRows finish.now.system.n (rows_behind rows.items)) }
     ensures count { IfOk result (λ rows. length rows.items < 2 ^ 32) }
 {

@@ -17,7 +17,8 @@ abbrev pub ◌>>=◌ : {A B E : Type 0} → Result A E → (A → Result B E) �
 -- the bytes of a file of at most so many, none where it is not there
 abbrev pub text_in : ℕ → Option (List ℕ) → Result (Option (List ℕ)) FileFault
 text_in limit None = Ok None
-text_in limit (Some text) = if nat_lt limit (length text) then Err (TooLong (length text)) else Ok (Some text)
+text_in limit (Some text) =
+    if nat_lt limit (length text) then Err (TooLong (length text)) else Ok (Some text)
 
 -- what a text says, or its first fault
 abbrev pub said : {C : Type 0} → Result C TextFault → Result C FileFault

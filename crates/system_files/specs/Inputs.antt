@@ -31,7 +31,10 @@ at source (Err fault) = Err (File source fault)
 -- none of these files is there
 abbrev pub without : List ℕ → List Source → Files → Result (Unit {0}) InputFault
 without project [] files = Ok tt
-without project (s ∷ sources) files = if is_some (get files (file_name project s)) then Err (Refused s) else without project sources files
+without project (s ∷ sources) files =
+    if is_some (get files (file_name project s))
+    then Err (Refused s)
+    else without project sources files
 
 -- the files that are not supported
 abbrev pub unsupported : List Source

@@ -29,7 +29,8 @@ fn read_text<F: Folder>(
     limit: u64,
 ) -> Result<Option<Vec<u8>>, FileEnd>
     ensures same { F.held folder.new ≡ F.held folder.old }
-    ensures text { IfSome (F.held folder.old) (λ files. ReadsBy (λ found. option_map (λ v. v.items) found) result
+    ensures text { IfSome (F.held folder.old)
+        (λ files. ReadsBy (λ found. option_map (λ v. v.items) found) result
         (text_in limit (get files (project.now ++ ending.now)))) }
     ensures cause { HasFileCause (F.faults folder.old) (F.faults folder.new) result }
 {
@@ -47,8 +48,10 @@ fn parse_grid(
 ) -> Result<Option<Grid>, FileEnd>
     requires rows { max_rows ≤ 2 ^ 21 }
     requires cols { max_cols ≤ 64 }
-    ensures grid { Reads result (spelled (matrix_of max_rows max_cols) (option_map (λ v. v.items) text.now)) }
-    ensures limits { IfOk result (λ found. IfSome found (λ grid. (grid.rows ≤ max_rows) × (grid.cols ≤ max_cols))) }
+    ensures grid { Reads result
+        (spelled (matrix_of max_rows max_cols) (option_map (λ v. v.items) text.now)) }
+    ensures limits { IfOk result
+        (λ found. IfSome found (λ grid. (grid.rows ≤ max_rows) × (grid.cols ≤ max_cols))) }
     ensures calm { result ≡ Err FileEnd.Failed → ⊥ }
 {
     let Some(text) = text else {
@@ -67,7 +70,8 @@ fn parse_relations(
 ) -> Result<Option<RelGrid>, FileEnd>
     requires rows { max_rows ≤ 2 ^ 21 }
     requires cols { max_cols ≤ 64 }
-    ensures relations { Reads result (spelled (relation_table_of max_rows max_cols) (option_map (λ v. v.items) text.now)) }
+    ensures relations { Reads result
+        (spelled (relation_table_of max_rows max_cols) (option_map (λ v. v.items) text.now)) }
     ensures calm { result ≡ Err FileEnd.Failed → ⊥ }
 {
     let Some(text) = text else {
@@ -86,7 +90,8 @@ fn parse_caps(
 ) -> Result<Option<CapGrid>, FileEnd>
     requires rows { max_rows ≤ 2 ^ 21 }
     requires cols { max_cols ≤ 64 }
-    ensures caps { Reads result (spelled (cap_table_of max_rows max_cols) (option_map (λ v. v.items) text.now)) }
+    ensures caps { Reads result
+        (spelled (cap_table_of max_rows max_cols) (option_map (λ v. v.items) text.now)) }
     ensures calm { result ≡ Err FileEnd.Failed → ⊥ }
 {
     let Some(text) = text else {
@@ -111,7 +116,8 @@ pub(crate) fn read_optional_grid<F: Folder>(
     ensures same { F.held folder.new ≡ F.held folder.old }
     ensures grid { IfSome (F.held folder.old) (λ files. Reads result
         (optional_grid_in limit max_rows max_cols (get files (project.now ++ ending.now)))) }
-    ensures limits { IfOk result (λ found. IfSome found (λ grid. (grid.rows ≤ max_rows) × (grid.cols ≤ max_cols))) }
+    ensures limits { IfOk result
+        (λ found. IfSome found (λ grid. (grid.rows ≤ max_rows) × (grid.cols ≤ max_cols))) }
     ensures cause { HasFileCause (F.faults folder.old) (F.faults folder.new) result }
 {
     let text = read_text(alloc, folder, project, ending, limit)?;

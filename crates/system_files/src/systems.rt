@@ -101,7 +101,8 @@ fn read_relations<F: Folder>(
 ) -> Result<Option<RelGrid>, InputStop>
     ensures same { F.held folder.new ≡ F.held folder.old }
     ensures relations { IfSome (F.held folder.old) (λ files. Finds result
-        (at Source.Rel (optional_relations_in 4194304 64 64 (get files (file_name project.now Source.Rel))))) }
+        (at Source.Rel
+        (optional_relations_in 4194304 64 64 (get files (file_name project.now Source.Rel))))) }
     ensures cause { HasStopCause (F.faults folder.old) (F.faults folder.new) result }
 {
     let found = read_optional_relations(
@@ -124,7 +125,8 @@ fn read_caps<F: Folder>(
 ) -> Result<Option<CapGrid>, InputStop>
     ensures same { F.held folder.new ≡ F.held folder.old }
     ensures caps { IfSome (F.held folder.old) (λ files. Finds result
-        (at Source.Cap (optional_caps_in 4194304 64 64 (get files (file_name project.now Source.Cap))))) }
+        (at Source.Cap
+        (optional_caps_in 4194304 64 64 (get files (file_name project.now Source.Cap))))) }
     ensures cause { HasStopCause (F.faults folder.old) (F.faults folder.new) result }
 {
     let found = read_optional_caps(
@@ -147,7 +149,8 @@ fn refuse<F: Folder>(
     source: Source,
 ) -> Result<(), InputStop>
     ensures same { F.held folder.new ≡ F.held folder.old }
-    ensures absent { IfSome (F.held folder.old) (λ files. Finds result (without project.now (source ∷ []) files)) }
+    ensures absent { IfSome (F.held folder.old)
+        (λ files. Finds result (without project.now (source ∷ []) files)) }
     ensures cause { HasStopCause (F.faults folder.old) (F.faults folder.new) result }
 {
     let name = file_name(alloc, project, source.ending())?;
@@ -166,7 +169,8 @@ fn refuse_unsupported<F: Folder>(
     project: &str,
 ) -> Result<(), InputStop>
     ensures same { F.held folder.new ≡ F.held folder.old }
-    ensures absent { IfSome (F.held folder.old) (λ files. Finds result (without project.now unsupported files)) }
+    ensures absent { IfSome (F.held folder.old)
+        (λ files. Finds result (without project.now unsupported files)) }
     ensures cause { HasStopCause (F.faults folder.old) (F.faults folder.new) result }
 {
     refuse(alloc, folder, project, Source::Lat)?;
@@ -177,7 +181,8 @@ fn refuse_unsupported<F: Folder>(
 // The matrices of the files, each read before the next is looked at.
 fn read_input<F: Folder>(alloc: Global, folder: &mut F, project: &str) -> Result<Input, InputStop>
     ensures same { F.held folder.new ≡ F.held folder.old }
-    ensures input { IfSome (F.held folder.old) (λ files. Finds result (input_in project.now files)) }
+    ensures input { IfSome (F.held folder.old)
+        (λ files. Finds result (input_in project.now files)) }
     ensures limits { IfOk result (λ input. (input.mat.rows ≤ 64) × (input.mat.cols ≤ 64)) }
     ensures cause { HasStopCause (F.faults folder.old) (F.faults folder.new) result }
 {
@@ -203,7 +208,8 @@ fn read_input<F: Folder>(alloc: Global, folder: &mut F, project: &str) -> Result
 pub fn shape_input(alloc: Global, tool: Tool, input: &Input) -> Result<System, InputStop>
     requires rows { input.now.mat.rows ≤ 64 }
     requires cols { input.now.mat.cols ≤ 64 }
-    ensures fault { FindsBy (λ _. input.now) result (unless_fault (shape_fault tool input.now) input.now) }
+    ensures fault { FindsBy (λ _. input.now) result
+        (unless_fault (shape_fault tool input.now) input.now) }
     ensures shaped { IfOk result (IsShaped tool input.now) }
     ensures calm { (source : Source) → result ≡ Err (InputStop.Failed source) → ⊥ }
 {
@@ -226,7 +232,8 @@ pub fn read_shaped<F: Folder>(
     project: &str,
 ) -> Result<Shaped, InputStop>
     ensures same { F.held folder.new ≡ F.held folder.old }
-    ensures input { IfSome (F.held folder.old) (λ files. FindsBy (λ s. s.input) result (accepted_in tool project.now files)) }
+    ensures input { IfSome (F.held folder.old)
+        (λ files. FindsBy (λ s. s.input) result (accepted_in tool project.now files)) }
     ensures shaped { IfOk result (λ s. IsShaped tool s.input s.system) }
     ensures limits { IfOk result (λ s. (s.input.mat.rows ≤ 64) × (s.input.mat.cols ≤ 64)) }
     ensures cause { HasStopCause (F.faults folder.old) (F.faults folder.new) result }
@@ -250,7 +257,8 @@ pub fn read_system<F: Folder>(
     ensures same { F.held folder.new ≡ F.held folder.old }
 
     // Each fault is the first of the files, and the system is the one that they stand for.
-    ensures system { IfSome (F.held folder.old) (λ files. GivesInput result (system_in tool project.now files)) }
+    ensures system { IfSome (F.held folder.old)
+        (λ files. GivesInput result (system_in tool project.now files)) }
 
     // A failure is answered only where the folder's count of faults rose.
     ensures cause { HasInputCause (F.faults folder.old) (F.faults folder.new) result }

@@ -94,8 +94,11 @@ fn put_file_texts<'a, S: Sink>(
 
 // Puts the line `PROGRAM: TEXT`, piece by piece. After a refusal a prefix of it was put.
 fn put_line<S: Sink>(sink: &mut S, program: &str, wording: &Wording) -> Result<(), PutEnd>
-    ensures done { OnOk result (S.held sink.new ≡ append_known (S.held sink.old) (line_of program.now (words_in wording.now))) }
-    ensures refused { OnErr result (MayPut (line_of program.now (words_in wording.now)) (S.held sink.old) (S.held sink.new)) }
+    ensures done { OnOk result
+        (S.held sink.new
+        ≡ append_known (S.held sink.old) (line_of program.now (words_in wording.now))) }
+    ensures refused { OnErr result
+        (MayPut (line_of program.now (words_in wording.now)) (S.held sink.old) (S.held sink.new)) }
     ensures cause { HasCause (S.faults sink.old) (S.faults sink.new) result }
 {
     let mut first = Buffer::new();
@@ -120,8 +123,13 @@ fn put_file_line<S: Sink>(
     ending: &str,
     wording: &Wording,
 ) -> Result<(), PutEnd>
-    ensures done { OnOk result (S.held sink.new ≡ append_known (S.held sink.old) (file_line program.now project.now ending.now (words_in wording.now))) }
-    ensures refused { OnErr result (MayPut (file_line program.now project.now ending.now (words_in wording.now)) (S.held sink.old) (S.held sink.new)) }
+    ensures done { OnOk result
+        (S.held sink.new
+        ≡ append_known (S.held sink.old)
+        (file_line program.now project.now ending.now (words_in wording.now))) }
+    ensures refused { OnErr result
+        (MayPut (file_line program.now project.now ending.now (words_in wording.now))
+        (S.held sink.old) (S.held sink.new)) }
     ensures cause { HasCause (S.faults sink.old) (S.faults sink.new) result }
 {
     let mut first = Buffer::new();

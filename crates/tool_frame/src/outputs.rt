@@ -24,8 +24,13 @@ pub fn write_output<F: Folder>(
     ending: &str,
     grid: &Grid,
 ) -> Result<(), PutEnd>
-    ensures done { OnOk result (F.held folder.new ≡ option_map (written (project.now ++ ending.now) (text_of grid.now)) (F.held folder.old)) }
-    ensures refused { OnErr result (MayWrite (project.now ++ ending.now) (text_of grid.now) (F.held folder.old) (F.held folder.new)) }
+    ensures done { OnOk result
+        (F.held folder.new
+        ≡ option_map (written (project.now ++ ending.now) (text_of grid.now))
+        (F.held folder.old)) }
+    ensures refused { OnErr result
+        (MayWrite (project.now ++ ending.now) (text_of grid.now) (F.held folder.old)
+        (F.held folder.new)) }
     ensures cause { HasCause (F.faults folder.old) (F.faults folder.new) result }
 {
     let name = file_name(alloc, project, ending)?;

@@ -96,8 +96,10 @@ pub record IsCutInFile (p : Plan) (t : Traces) (part : Part) : Type 0 where
   pub outputs : List OutputFile
   pub finishes : Finishes p pairs outputs
   pub files : Files
-  pub backups : BacksUp p finishes.start (Ok (finished finishes.rows pairs)) t.files_before (Some files)
-  pub cut : IsCutAt (project_of p.job) (to_write p.job.tables outputs) part (Some files) t.files_after
+  pub backups : BacksUp p finishes.start (Ok (finished finishes.rows pairs)) t.files_before
+      (Some files)
+  pub cut : IsCutAt (project_of p.job) (to_write p.job.tables outputs) part
+      (Some files) t.files_after
   pub out : t.out_after ≡ t.out_before
 
 -- the run was finished, all output files are whole, and putting its summary was refused
@@ -106,9 +108,12 @@ pub record IsCutInSummary (p : Plan) (t : Traces) : Type 0 where
   pub outputs : List OutputFile
   pub finishes : Finishes p pairs outputs
   pub files : Files
-  pub backups : BacksUp p finishes.start (Ok (finished finishes.rows pairs)) t.files_before (Some files)
-  pub whole : t.files_after ≡ Some (written_all (project_of p.job) (to_write p.job.tables outputs) files)
-  pub out : MayPut (summary_of p.job (total_rows outputs) pairs (norms_in outputs)) t.out_before t.out_after
+  pub backups : BacksUp p finishes.start (Ok (finished finishes.rows pairs)) t.files_before
+      (Some files)
+  pub whole : t.files_after
+      ≡ Some (written_all (project_of p.job) (to_write p.job.tables outputs) files)
+  pub out : MayPut
+      (summary_of p.job (total_rows outputs) pairs (norms_in outputs)) t.out_before t.out_after
 
 -- ---- all ends
 -- what a fault of this part leaves: of an output file, a prefix of its text may stand there; of

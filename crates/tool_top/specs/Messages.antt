@@ -30,10 +30,13 @@ part_name project part = file_name project part
 
 -- the words that the command takes
 abbrev pub usage_of : Tool → List (List ℕ)
-usage_of Graver = codes "usage: graver [-q|--quiet] [--workers=N] [--pairs=N] [--rows=N] [--backup=N] [-r|--resume] PROJECT"
+usage_of Graver =
+    codes "usage: graver [-q|--quiet] [--workers=N] [--pairs=N] [--rows=N] [--backup=N] [-r|--resume] PROJECT"
     ∷ codes " or graver [-q|--quiet] [--workers=N] [--pairs=N] [--rows=N] --tables=K" ∷ []
-usage_of Hilbert = codes "usage: hilbert [-q|--quiet] [--workers=N] [--pairs=N] [--rows=N] [--backup=N] [-r|--resume] PROJECT" ∷ []
-usage_of Zsolve = codes "usage: zsolve [-q|--quiet] [--workers=N] [--pairs=N] [--rows=N] [--backup=N] [-r|--resume] PROJECT" ∷ []
+usage_of Hilbert =
+    codes "usage: hilbert [-q|--quiet] [--workers=N] [--pairs=N] [--rows=N] [--backup=N] [-r|--resume] PROJECT" ∷ []
+usage_of Zsolve =
+    codes "usage: zsolve [-q|--quiet] [--workers=N] [--pairs=N] [--rows=N] [--backup=N] [-r|--resume] PROJECT" ∷ []
 
 -- what is wrong at a byte of a text
 abbrev pub at_byte : ℕ → List ℕ → List (List ℕ)

@@ -15,7 +15,8 @@ norm_parts (Some columns) norms = codes "norm total " ∷ decimal norms ∷ code
 -- the line of the two counts, and with tables the line of the sum of the norms
 abbrev pub summary_lines : Option ℕ → ℕ → ℕ → ℕ → List ℕ
 summary_lines tables solutions pairs norms = text_of_parts
-    (decimal solutions ∷ codes " solutions, " ∷ decimal pairs ∷ codes " pairs\n" ∷ norm_parts tables norms)
+    (decimal solutions ∷ codes " solutions, " ∷ decimal pairs ∷ codes " pairs\n"
+    ∷ norm_parts tables norms)
 
 -- the summary of a job: nothing where it is quiet
 abbrev pub summary_of : Job → ℕ → ℕ → ℕ → List ℕ

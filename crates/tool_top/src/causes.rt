@@ -13,8 +13,10 @@ use restart_file::RestartFault;
 
 // Puts the cause.
 fn put_cause<E: Sink>(err: &mut E, fault: RestartFault) -> Result<(), PutEnd>
-    ensures done { OnOk result (E.held err.new ≡ append_known (E.held err.old) (text_of_parts (cause_of fault))) }
-    ensures refused { OnErr result (MayPut (text_of_parts (cause_of fault)) (E.held err.old) (E.held err.new)) }
+    ensures done { OnOk result
+        (E.held err.new ≡ append_known (E.held err.old) (text_of_parts (cause_of fault))) }
+    ensures refused { OnErr result
+        (MayPut (text_of_parts (cause_of fault)) (E.held err.old) (E.held err.new)) }
     ensures cause { HasCause (E.faults err.old) (E.faults err.new) result }
 {
     match fault {
@@ -36,8 +38,13 @@ fn put_file_cause<E: Sink>(
     part: Part,
     fault: RestartFault,
 ) -> Result<(), PutEnd>
-    ensures done { OnOk result (E.held err.new ≡ append_known (E.held err.old) (text_of_parts (about project.now part (cause_of fault)))) }
-    ensures refused { OnErr result (MayPut (text_of_parts (about project.now part (cause_of fault))) (E.held err.old) (E.held err.new)) }
+    ensures done { OnOk result
+        (E.held err.new
+        ≡ append_known (E.held err.old)
+        (text_of_parts (about project.now part (cause_of fault)))) }
+    ensures refused { OnErr result
+        (MayPut (text_of_parts (about project.now part (cause_of fault))) (E.held err.old)
+        (E.held err.new)) }
     ensures cause { HasCause (E.faults err.old) (E.faults err.new) result }
 {
     put_file(err, project, part)?;
@@ -46,8 +53,13 @@ fn put_file_cause<E: Sink>(
 
 // Puts the second file and its cause, behind a semicolon.
 fn put_second_cause<E: Sink>(err: &mut E, project: &str, fault: RestartFault) -> Result<(), PutEnd>
-    ensures done { OnOk result (E.held err.new ≡ append_known (E.held err.old) (text_of_parts (codes "; " ∷ about project.now Part.Ckp1 (cause_of fault)))) }
-    ensures refused { OnErr result (MayPut (text_of_parts (codes "; " ∷ about project.now Part.Ckp1 (cause_of fault))) (E.held err.old) (E.held err.new)) }
+    ensures done { OnOk result
+        (E.held err.new
+        ≡ append_known (E.held err.old)
+        (text_of_parts (codes "; " ∷ about project.now Part.Ckp1 (cause_of fault)))) }
+    ensures refused { OnErr result
+        (MayPut (text_of_parts (codes "; " ∷ about project.now Part.Ckp1 (cause_of fault)))
+        (E.held err.old) (E.held err.new)) }
     ensures cause { HasCause (E.faults err.old) (E.faults err.new) result }
 {
     put_text(err, b"; ")?;
@@ -61,8 +73,13 @@ pub(crate) fn put_causes<E: Sink>(
     first: RestartFault,
     second: RestartFault,
 ) -> Result<(), PutEnd>
-    ensures done { OnOk result (E.held err.new ≡ append_known (E.held err.old) (text_of_parts (both_causes project.now first second))) }
-    ensures refused { OnErr result (MayPut (text_of_parts (both_causes project.now first second)) (E.held err.old) (E.held err.new)) }
+    ensures done { OnOk result
+        (E.held err.new
+        ≡ append_known (E.held err.old)
+        (text_of_parts (both_causes project.now first second))) }
+    ensures refused { OnErr result
+        (MayPut (text_of_parts (both_causes project.now first second)) (E.held err.old)
+        (E.held err.new)) }
     ensures cause { HasCause (E.faults err.old) (E.faults err.new) result }
 {
     put_file_cause(err, project, Part::Ckp0, first)?;

@@ -21,8 +21,10 @@ use system_shape::ShapeFault;
 
 // Puts a text.
 pub(crate) fn put_text<E: Sink>(err: &mut E, text: &[u8]) -> Result<(), PutEnd>
-    ensures done { OnOk result (E.held err.new ≡ append_known (E.held err.old) (text_of_parts (text.now ∷ []))) }
-    ensures refused { OnErr result (MayPut (text_of_parts (text.now ∷ [])) (E.held err.old) (E.held err.new)) }
+    ensures done { OnOk result
+        (E.held err.new ≡ append_known (E.held err.old) (text_of_parts (text.now ∷ []))) }
+    ensures refused { OnErr result
+        (MayPut (text_of_parts (text.now ∷ [])) (E.held err.old) (E.held err.new)) }
     ensures cause { HasCause (E.faults err.old) (E.faults err.new) result }
 {
     put_pieces(err, &[text])
@@ -30,8 +32,11 @@ pub(crate) fn put_text<E: Sink>(err: &mut E, text: &[u8]) -> Result<(), PutEnd>
 
 // Puts two texts.
 fn put_two<E: Sink>(err: &mut E, first: &[u8], second: &[u8]) -> Result<(), PutEnd>
-    ensures done { OnOk result (E.held err.new ≡ append_known (E.held err.old) (text_of_parts (first.now ∷ second.now ∷ []))) }
-    ensures refused { OnErr result (MayPut (text_of_parts (first.now ∷ second.now ∷ [])) (E.held err.old) (E.held err.new)) }
+    ensures done { OnOk result
+        (E.held err.new
+        ≡ append_known (E.held err.old) (text_of_parts (first.now ∷ second.now ∷ []))) }
+    ensures refused { OnErr result
+        (MayPut (text_of_parts (first.now ∷ second.now ∷ [])) (E.held err.old) (E.held err.new)) }
     ensures cause { HasCause (E.faults err.old) (E.faults err.new) result }
 {
     put_pieces(err, &[first, second])
@@ -39,8 +44,13 @@ fn put_two<E: Sink>(err: &mut E, first: &[u8], second: &[u8]) -> Result<(), PutE
 
 // Puts three texts.
 fn put_three<E: Sink>(err: &mut E, first: &[u8], second: &[u8], third: &[u8]) -> Result<(), PutEnd>
-    ensures done { OnOk result (E.held err.new ≡ append_known (E.held err.old) (text_of_parts (first.now ∷ second.now ∷ third.now ∷ []))) }
-    ensures refused { OnErr result (MayPut (text_of_parts (first.now ∷ second.now ∷ third.now ∷ [])) (E.held err.old) (E.held err.new)) }
+    ensures done { OnOk result
+        (E.held err.new
+        ≡ append_known (E.held err.old)
+        (text_of_parts (first.now ∷ second.now ∷ third.now ∷ []))) }
+    ensures refused { OnErr result
+        (MayPut (text_of_parts (first.now ∷ second.now ∷ third.now ∷ [])) (E.held err.old)
+        (E.held err.new)) }
     ensures cause { HasCause (E.faults err.old) (E.faults err.new) result }
 {
     put_pieces(err, &[first, second, third])
@@ -53,8 +63,13 @@ pub(crate) fn put_number<E: Sink>(
     number: u64,
     after: &[u8],
 ) -> Result<(), PutEnd>
-    ensures done { OnOk result (E.held err.new ≡ append_known (E.held err.old) (text_of_parts (before.now ∷ decimal number ∷ after.now ∷ []))) }
-    ensures refused { OnErr result (MayPut (text_of_parts (before.now ∷ decimal number ∷ after.now ∷ [])) (E.held err.old) (E.held err.new)) }
+    ensures done { OnOk result
+        (E.held err.new
+        ≡ append_known (E.held err.old)
+        (text_of_parts (before.now ∷ decimal number ∷ after.now ∷ []))) }
+    ensures refused { OnErr result
+        (MayPut (text_of_parts (before.now ∷ decimal number ∷ after.now ∷ [])) (E.held err.old)
+        (E.held err.new)) }
     ensures cause { HasCause (E.faults err.old) (E.faults err.new) result }
 {
     let mut digits = Buffer::new();
@@ -63,8 +78,12 @@ pub(crate) fn put_number<E: Sink>(
 
 // Puts a number and a text.
 fn put_count<E: Sink>(err: &mut E, number: u64, after: &[u8]) -> Result<(), PutEnd>
-    ensures done { OnOk result (E.held err.new ≡ append_known (E.held err.old) (text_of_parts (decimal number ∷ after.now ∷ []))) }
-    ensures refused { OnErr result (MayPut (text_of_parts (decimal number ∷ after.now ∷ [])) (E.held err.old) (E.held err.new)) }
+    ensures done { OnOk result
+        (E.held err.new
+        ≡ append_known (E.held err.old) (text_of_parts (decimal number ∷ after.now ∷ []))) }
+    ensures refused { OnErr result
+        (MayPut (text_of_parts (decimal number ∷ after.now ∷ [])) (E.held err.old)
+        (E.held err.new)) }
     ensures cause { HasCause (E.faults err.old) (E.faults err.new) result }
 {
     let mut digits = Buffer::new();
@@ -73,8 +92,12 @@ fn put_count<E: Sink>(err: &mut E, number: u64, after: &[u8]) -> Result<(), PutE
 
 // Puts an entry behind a space.
 fn put_entry<E: Sink>(err: &mut E, cell: i64) -> Result<(), PutEnd>
-    ensures done { OnOk result (E.held err.new ≡ append_known (E.held err.old) (text_of_parts ((32 ∷ signed_decimal cell) ∷ []))) }
-    ensures refused { OnErr result (MayPut (text_of_parts ((32 ∷ signed_decimal cell) ∷ [])) (E.held err.old) (E.held err.new)) }
+    ensures done { OnOk result
+        (E.held err.new
+        ≡ append_known (E.held err.old) (text_of_parts ((32 ∷ signed_decimal cell) ∷ []))) }
+    ensures refused { OnErr result
+        (MayPut (text_of_parts ((32 ∷ signed_decimal cell) ∷ [])) (E.held err.old)
+        (E.held err.new)) }
     ensures cause { HasCause (E.faults err.old) (E.faults err.new) result }
 {
     let mut digits = Buffer::new();
@@ -83,8 +106,10 @@ fn put_entry<E: Sink>(err: &mut E, cell: i64) -> Result<(), PutEnd>
 
 // Puts the entries of a solution, each behind a space.
 fn put_entries<E: Sink>(err: &mut E, cells: &[i64]) -> Result<(), PutEnd>
-    ensures done { OnOk result (E.held err.new ≡ append_known (E.held err.old) (text_of_parts (entries cells.now))) }
-    ensures refused { OnErr result (MayPut (text_of_parts (entries cells.now)) (E.held err.old) (E.held err.new)) }
+    ensures done { OnOk result
+        (E.held err.new ≡ append_known (E.held err.old) (text_of_parts (entries cells.now))) }
+    ensures refused { OnErr result
+        (MayPut (text_of_parts (entries cells.now)) (E.held err.old) (E.held err.new)) }
     ensures cause { HasCause (E.faults err.old) (E.faults err.new) result }
 {
     for cell in cells {
@@ -110,8 +135,13 @@ pub(crate) fn put_file<E: Sink>(err: &mut E, project: &str, part: Part) -> Resul
 
 // Puts a file's name, and a text that is said of it.
 fn put_about<E: Sink>(err: &mut E, project: &str, part: Part, text: &[u8]) -> Result<(), PutEnd>
-    ensures done { OnOk result (E.held err.new ≡ append_known (E.held err.old) (text_of_parts (about project.now part (text.now ∷ [])))) }
-    ensures refused { OnErr result (MayPut (text_of_parts (about project.now part (text.now ∷ []))) (E.held err.old) (E.held err.new)) }
+    ensures done { OnOk result
+        (E.held err.new
+        ≡ append_known (E.held err.old)
+        (text_of_parts (about project.now part (text.now ∷ [])))) }
+    ensures refused { OnErr result
+        (MayPut (text_of_parts (about project.now part (text.now ∷ []))) (E.held err.old)
+        (E.held err.new)) }
     ensures cause { HasCause (E.faults err.old) (E.faults err.new) result }
 {
     put_file(err, project, part)?;
@@ -120,8 +150,10 @@ fn put_about<E: Sink>(err: &mut E, project: &str, part: Part, text: &[u8]) -> Re
 
 // Puts what is wrong with a text.
 fn put_text_fault<E: Sink>(err: &mut E, fault: TextFault) -> Result<(), PutEnd>
-    ensures done { OnOk result (E.held err.new ≡ append_known (E.held err.old) (text_of_parts (text_fault fault))) }
-    ensures refused { OnErr result (MayPut (text_of_parts (text_fault fault)) (E.held err.old) (E.held err.new)) }
+    ensures done { OnOk result
+        (E.held err.new ≡ append_known (E.held err.old) (text_of_parts (text_fault fault))) }
+    ensures refused { OnErr result
+        (MayPut (text_of_parts (text_fault fault)) (E.held err.old) (E.held err.new)) }
     ensures cause { HasCause (E.faults err.old) (E.faults err.new) result }
 {
     match fault {
@@ -144,8 +176,13 @@ fn put_text_line<E: Sink>(
     part: Part,
     fault: TextFault,
 ) -> Result<(), PutEnd>
-    ensures done { OnOk result (E.held err.new ≡ append_known (E.held err.old) (text_of_parts (about project.now part (text_fault fault)))) }
-    ensures refused { OnErr result (MayPut (text_of_parts (about project.now part (text_fault fault))) (E.held err.old) (E.held err.new)) }
+    ensures done { OnOk result
+        (E.held err.new
+        ≡ append_known (E.held err.old)
+        (text_of_parts (about project.now part (text_fault fault)))) }
+    ensures refused { OnErr result
+        (MayPut (text_of_parts (about project.now part (text_fault fault))) (E.held err.old)
+        (E.held err.new)) }
     ensures cause { HasCause (E.faults err.old) (E.faults err.new) result }
 {
     put_file(err, project, part)?;
@@ -154,8 +191,10 @@ fn put_text_line<E: Sink>(
 
 // Puts the wrong shape of a matrix.
 fn put_shape<E: Sink>(err: &mut E, rows: u32, cols: u32) -> Result<(), PutEnd>
-    ensures done { OnOk result (E.held err.new ≡ append_known (E.held err.old) (text_of_parts (wrong_shape rows cols))) }
-    ensures refused { OnErr result (MayPut (text_of_parts (wrong_shape rows cols)) (E.held err.old) (E.held err.new)) }
+    ensures done { OnOk result
+        (E.held err.new ≡ append_known (E.held err.old) (text_of_parts (wrong_shape rows cols))) }
+    ensures refused { OnErr result
+        (MayPut (text_of_parts (wrong_shape rows cols)) (E.held err.old) (E.held err.new)) }
     ensures cause { HasCause (E.faults err.old) (E.faults err.new) result }
 {
     let mut first = Buffer::new();
@@ -173,8 +212,10 @@ fn put_shape<E: Sink>(err: &mut E, rows: u32, cols: u32) -> Result<(), PutEnd>
 
 // Puts a sign that is none.
 fn put_bad_sign<E: Sink>(err: &mut E, at: u32, value: i64) -> Result<(), PutEnd>
-    ensures done { OnOk result (E.held err.new ≡ append_known (E.held err.old) (text_of_parts (bad_sign at value))) }
-    ensures refused { OnErr result (MayPut (text_of_parts (bad_sign at value)) (E.held err.old) (E.held err.new)) }
+    ensures done { OnOk result
+        (E.held err.new ≡ append_known (E.held err.old) (text_of_parts (bad_sign at value))) }
+    ensures refused { OnErr result
+        (MayPut (text_of_parts (bad_sign at value)) (E.held err.old) (E.held err.new)) }
     ensures cause { HasCause (E.faults err.old) (E.faults err.new) result }
 {
     let mut first = Buffer::new();
@@ -192,8 +233,10 @@ fn put_bad_sign<E: Sink>(err: &mut E, at: u32, value: i64) -> Result<(), PutEnd>
 
 // Puts what is wrong with the files that go with a matrix.
 fn put_shape_fault<E: Sink>(err: &mut E, fault: ShapeFault) -> Result<(), PutEnd>
-    ensures done { OnOk result (E.held err.new ≡ append_known (E.held err.old) (text_of_parts (shape_fault_words fault))) }
-    ensures refused { OnErr result (MayPut (text_of_parts (shape_fault_words fault)) (E.held err.old) (E.held err.new)) }
+    ensures done { OnOk result
+        (E.held err.new ≡ append_known (E.held err.old) (text_of_parts (shape_fault_words fault))) }
+    ensures refused { OnErr result
+        (MayPut (text_of_parts (shape_fault_words fault)) (E.held err.old) (E.held err.new)) }
     ensures cause { HasCause (E.faults err.old) (E.faults err.new) result }
 {
     match fault {
@@ -241,9 +284,12 @@ fn put_shape_line<E: Sink>(err: &mut E, project: &str, fault: ShapeFault) -> Res
 // Puts a norm that leaves the range.
 fn put_norm<E: Sink>(err: &mut E, stage: u32, norm: u64) -> Result<(), PutEnd>
     ensures done { OnOk result (E.held err.new ≡ append_known (E.held err.old)
-        (text_of_parts (codes "overflow at equation " ∷ decimal stage ∷ codes ": norm " ∷ decimal norm ∷ []))) }
+        (text_of_parts
+        (codes "overflow at equation " ∷ decimal stage ∷ codes ": norm " ∷ decimal norm
+        ∷ []))) }
     ensures refused { OnErr result (MayPut
-        (text_of_parts (codes "overflow at equation " ∷ decimal stage ∷ codes ": norm " ∷ decimal norm ∷ []))
+        (text_of_parts
+        (codes "overflow at equation " ∷ decimal stage ∷ codes ": norm " ∷ decimal norm ∷ []))
         (E.held err.old) (E.held err.new)) }
     ensures cause { HasCause (E.faults err.old) (E.faults err.new) result }
 {
@@ -263,9 +309,13 @@ fn put_norm<E: Sink>(err: &mut E, stage: u32, norm: u64) -> Result<(), PutEnd>
 // Puts a solution with which a product leaves the range.
 fn put_solution<E: Sink>(err: &mut E, stage: u32, cells: &[i64]) -> Result<(), PutEnd>
     ensures done { OnOk result (E.held err.new ≡ append_known (E.held err.old)
-        (text_of_parts (codes "overflow at equation " ∷ decimal stage ∷ codes ": solution" ∷ entries cells.now))) }
+        (text_of_parts
+        (codes "overflow at equation " ∷ decimal stage ∷ codes ": solution"
+        ∷ entries cells.now))) }
     ensures refused { OnErr result (MayPut
-        (text_of_parts (codes "overflow at equation " ∷ decimal stage ∷ codes ": solution" ∷ entries cells.now))
+        (text_of_parts
+        (codes "overflow at equation " ∷ decimal stage ∷ codes ": solution"
+        ∷ entries cells.now))
         (E.held err.old) (E.held err.new)) }
     ensures cause { HasCause (E.faults err.old) (E.faults err.new) result }
 {
@@ -283,9 +333,13 @@ fn put_spent<E: Sink>(
     things: &[u8],
 ) -> Result<(), PutEnd>
     ensures done { OnOk result (E.held err.new ≡ append_known (E.held err.old)
-        (text_of_parts (budget.now ∷ decimal stage ∷ codes ", norm " ∷ decimal norm ∷ codes ": " ∷ decimal needed ∷ things.now ∷ []))) }
+        (text_of_parts
+        (budget.now ∷ decimal stage ∷ codes ", norm " ∷ decimal norm ∷ codes ": "
+        ∷ decimal needed ∷ things.now ∷ []))) }
     ensures refused { OnErr result (MayPut
-        (text_of_parts (budget.now ∷ decimal stage ∷ codes ", norm " ∷ decimal norm ∷ codes ": " ∷ decimal needed ∷ things.now ∷ []))
+        (text_of_parts
+        (budget.now ∷ decimal stage ∷ codes ", norm " ∷ decimal norm ∷ codes ": "
+        ∷ decimal needed ∷ things.now ∷ []))
         (E.held err.old) (E.held err.new)) }
     ensures cause { HasCause (E.faults err.old) (E.faults err.new) result }
 {
@@ -308,8 +362,12 @@ fn put_spent<E: Sink>(
 
 // Puts what leaves the range.
 fn put_overflow<E: Sink>(err: &mut E, stage: u32, place: &Place) -> Result<(), PutEnd>
-    ensures done { OnOk result (E.held err.new ≡ append_known (E.held err.old) (text_of_parts (overflow_words stage place.now))) }
-    ensures refused { OnErr result (MayPut (text_of_parts (overflow_words stage place.now)) (E.held err.old) (E.held err.new)) }
+    ensures done { OnOk result
+        (E.held err.new
+        ≡ append_known (E.held err.old) (text_of_parts (overflow_words stage place.now))) }
+    ensures refused { OnErr result
+        (MayPut (text_of_parts (overflow_words stage place.now)) (E.held err.old)
+        (E.held err.new)) }
     ensures cause { HasCause (E.faults err.old) (E.faults err.new) result }
 {
     match place {
@@ -331,8 +389,10 @@ fn tool_name(tool: Tool) -> &'static str
 
 // Puts the words that a command takes.
 fn put_usage<E: Sink>(err: &mut E, tool: Tool) -> Result<(), PutEnd>
-    ensures done { OnOk result (E.held err.new ≡ append_known (E.held err.old) (text_of_parts (usage_of tool))) }
-    ensures refused { OnErr result (MayPut (text_of_parts (usage_of tool)) (E.held err.old) (E.held err.new)) }
+    ensures done { OnOk result
+        (E.held err.new ≡ append_known (E.held err.old) (text_of_parts (usage_of tool))) }
+    ensures refused { OnErr result
+        (MayPut (text_of_parts (usage_of tool)) (E.held err.old) (E.held err.new)) }
     ensures cause { HasCause (E.faults err.old) (E.faults err.new) result }
 {
     match tool {
@@ -396,8 +456,12 @@ fn put_rows<E: Sink>(err: &mut E, stage: u32, norm: u64, count: u64) -> Result<(
 
 // Puts what a line says behind the tool's name. Of a run that is done it says nothing.
 fn put_words<E: Sink>(err: &mut E, tool: Tool, project: &str, end: &End) -> Result<(), PutEnd>
-    ensures done { OnOk result (E.held err.new ≡ append_known (E.held err.old) (text_of_parts (words_of tool project.now end.now))) }
-    ensures refused { OnErr result (MayPut (text_of_parts (words_of tool project.now end.now)) (E.held err.old) (E.held err.new)) }
+    ensures done { OnOk result
+        (E.held err.new
+        ≡ append_known (E.held err.old) (text_of_parts (words_of tool project.now end.now))) }
+    ensures refused { OnErr result
+        (MayPut (text_of_parts (words_of tool project.now end.now)) (E.held err.old)
+        (E.held err.new)) }
     ensures cause { HasCause (E.faults err.old) (E.faults err.new) result }
 {
     match end {
@@ -443,10 +507,12 @@ pub fn put_message<E: Sink>(tool: Tool, project: &str, end: &End, err: &mut E) -
     requires { IsDone end.now → ⊥ }
 
     // The whole line came.
-    ensures done { OnOk result (E.held err.new ≡ append_known (E.held err.old) (message_of tool project.now end.now)) }
+    ensures done { OnOk result
+        (E.held err.new ≡ append_known (E.held err.old) (message_of tool project.now end.now)) }
 
     // A prefix of it came.
-    ensures refused { OnErr result (MayPut (message_of tool project.now end.now) (E.held err.old) (E.held err.new)) }
+    ensures refused { OnErr result
+        (MayPut (message_of tool project.now end.now) (E.held err.old) (E.held err.new)) }
 
     // The device failed only where its count rose.
     ensures cause { HasCause (E.faults err.old) (E.faults err.new) result }

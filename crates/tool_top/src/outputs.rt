@@ -112,11 +112,14 @@ fn write_output<F: Folder>(
     output: &Output,
 ) -> Result<(), End>
     ensures done { OnOk result
-        (F.held folder.new ≡ option_map (written_all project.now (output_of output.now ∷ [])) (F.held folder.old)) }
+        (F.held folder.new
+        ≡ option_map (written_all project.now (output_of output.now ∷ []))
+        (F.held folder.old)) }
     ensures refused { IfErr result
         (CutsTo project.now (output_of output.now ∷ []) (F.held folder.old) (F.held folder.new)) }
     ensures later { F.faults folder.old ≤ F.faults folder.new }
-    ensures cause { (p : Part) → result ≡ Err (End.Outside p) → Rose (F.faults folder.old) (F.faults folder.new) }
+    ensures cause { (p : Part) → result ≡ Err (End.Outside p)
+        → Rose (F.faults folder.old) (F.faults folder.new) }
 {
     let name = file_name(alloc, project, ending(output.part))?;
     match write_grid(alloc, folder, name.as_str(), &output.grid) {
@@ -133,11 +136,13 @@ pub(crate) fn write_outputs<F: Folder>(
     outputs: &Outputs,
 ) -> Result<(), End>
     ensures done { OnOk result
-        (F.held folder.new ≡ option_map (written_all project.now (outputs_of outputs.now)) (F.held folder.old)) }
+        (F.held folder.new
+        ≡ option_map (written_all project.now (outputs_of outputs.now)) (F.held folder.old)) }
     ensures refused { IfErr result
         (CutsTo project.now (outputs_of outputs.now) (F.held folder.old) (F.held folder.new)) }
     ensures later { F.faults folder.old ≤ F.faults folder.new }
-    ensures cause { (p : Part) → result ≡ Err (End.Outside p) → Rose (F.faults folder.old) (F.faults folder.new) }
+    ensures cause { (p : Part) → result ≡ Err (End.Outside p)
+        → Rose (F.faults folder.old) (F.faults folder.new) }
 {
     for output in &outputs.list {
         write_output(alloc, folder, project, output)?;

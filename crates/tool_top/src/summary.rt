@@ -12,8 +12,10 @@ use tool_words::Job;
 
 // Puts the line of the two counts.
 fn put_counts<O: Sink>(out: &mut O, solutions: u64, pairs: u64) -> Result<(), PutEnd>
-    ensures done { OnOk result (O.held out.new ≡ append_known (O.held out.old) (summary_lines None solutions pairs 0)) }
-    ensures refused { OnErr result (MayPut (summary_lines None solutions pairs 0) (O.held out.old) (O.held out.new)) }
+    ensures done { OnOk result
+        (O.held out.new ≡ append_known (O.held out.old) (summary_lines None solutions pairs 0)) }
+    ensures refused { OnErr result
+        (MayPut (summary_lines None solutions pairs 0) (O.held out.old) (O.held out.new)) }
     ensures cause { HasCause (O.faults out.old) (O.faults out.new) result }
 {
     let mut first = Buffer::new();
@@ -68,7 +70,8 @@ pub(crate) fn put_summary<O: Sink>(
     norms: u128,
 ) -> Result<(), PutEnd>
     ensures done { OnOk result
-        (O.held out.new ≡ append_known (O.held out.old) (summary_of job.now solutions pairs norms)) }
+        (O.held out.new
+        ≡ append_known (O.held out.old) (summary_of job.now solutions pairs norms)) }
     ensures refused { OnErr result
         (MayPut (summary_of job.now solutions pairs norms) (O.held out.old) (O.held out.new)) }
     ensures cause { HasCause (O.faults out.old) (O.faults out.new) result }

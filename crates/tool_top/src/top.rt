@@ -92,7 +92,8 @@ fn restart_names(alloc: Global, job: &Job) -> Result<RestartNames, AllocError>
 // Puts the summary of outputs that are written, and gives their numbers.
 fn tell<O: Sink>(out: &mut O, job: &Job, outputs: &Outputs, pairs: u64) -> Result<Totals, End>
     requires { vec_len outputs.now.list ≤ 2 }
-    ensures told { TellsOf job.now (outputs_of outputs.now) pairs (O.held out.old) (O.held out.new) result }
+    ensures told { TellsOf job.now (outputs_of outputs.now) pairs (O.held out.old)
+        (O.held out.new) result }
     ensures cause { HasSinkCause (O.faults out.old) (O.faults out.new) (end_of result) }
 {
     let solutions = count_rows(outputs);
@@ -181,9 +182,11 @@ fn carry_out<R: Threads + Sync, F: Folder, O: Sink, G: Gate + Sync>(
 ) -> Result<Totals, End>
     requires names { AreRestartNames (project_of job.now) names.now }
     requires within { IsWithinLimits job.now }
-    ensures ends { (tool : Tool) (input : Input) (stored : Stored) → IsShaped tool input (tool_system tool input)
+    ensures ends { (tool : Tool) (input : Input) (stored : Stored)
+        → IsShaped tool input (tool_system tool input)
         → StartsAs (record { job = job.now; tool = tool; input = input; stored = stored }) start
-        → IfSome (F.held folder.old) (λ files. Ends (Ok (record { job = job.now; tool = tool; input = input; stored = stored }))
+        → IfSome (F.held folder.old)
+        (λ files. Ends (Ok (record { job = job.now; tool = tool; input = input; stored = stored }))
         (record { files_before = files; files_after = F.held folder.new; out_before = O.held out.old; out_after = O.held out.new })
         (end_of result)) }
     ensures apart { IsSome job.now.tables → folder.new ≡ folder.old }
@@ -191,7 +194,8 @@ fn carry_out<R: Threads + Sync, F: Folder, O: Sink, G: Gate + Sync>(
     ensures words { end_of result ≢ End.Usage }
     ensures folder_fault { (p : Part) → end_of result ≡ End.Outside p → p ≢ Part.Out
         → Rose (F.faults folder.old) (F.faults folder.new) }
-    ensures out_fault { end_of result ≡ End.Outside Part.Out → Rose (O.faults out.old) (O.faults out.new) }
+    ensures out_fault { end_of result ≡ End.Outside Part.Out
+        → Rose (O.faults out.old) (O.faults out.new) }
 {
     let finish = run_job(rt, alloc, job, start, names, folder, gate)?;
     let outputs = select_outputs(alloc, &finish)?;
@@ -202,7 +206,8 @@ fn carry_out<R: Threads + Sync, F: Folder, O: Sink, G: Gate + Sync>(
 // The system of the tables, without a look at any file.
 fn shape_tables(alloc: Global, tool: Tool, k: u32) -> Result<Shaped, InputStop>
     requires { (2 ≤ k) × (k ≤ 20) }
-    ensures input { FindsBy (λ s. s.input) result (unless_fault (shape_fault tool (tables_input k)) (tables_input k)) }
+    ensures input { FindsBy (λ s. s.input) result
+        (unless_fault (shape_fault tool (tables_input k)) (tables_input k)) }
     ensures shaped { IfOk result (λ s. IsShaped tool s.input s.system) }
     ensures calm { (source : Source) → result ≡ Err (InputStop.Failed source) → ⊥ }
 {
@@ -242,10 +247,12 @@ fn write_job<F: Folder>(
     ensures apart { IsSome job.now.tables → folder.new ≡ folder.old }
     ensures done { OnOk result (F.held folder.new
         ≡ option_map (written_all (project_of job.now) (to_write job.now.tables (outputs_of outputs.now))) (F.held folder.old)) }
-    ensures refused { IfErr result (CutsTo (project_of job.now) (to_write job.now.tables (outputs_of outputs.now))
+    ensures refused { IfErr result
+        (CutsTo (project_of job.now) (to_write job.now.tables (outputs_of outputs.now))
         (F.held folder.old) (F.held folder.new)) }
     ensures later { F.faults folder.old ≤ F.faults folder.new }
-    ensures cause { (p : Part) → result ≡ Err (End.Outside p) → Rose (F.faults folder.old) (F.faults folder.new) }
+    ensures cause { (p : Part) → result ≡ Err (End.Outside p)
+        → Rose (F.faults folder.old) (F.faults folder.new) }
 {
     match job.tables {
         Some(_) => Ok(()),
@@ -272,7 +279,8 @@ fn attempt<R: Threads + Sync, F: Folder, O: Sink, G: Gate + Sync>(
     ensures words { end_of result ≢ End.Usage }
     ensures folder_fault { (p : Part) → end_of result ≡ End.Outside p → p ≢ Part.Out
         → Rose (F.faults folder.old) (F.faults folder.new) }
-    ensures out_fault { end_of result ≡ End.Outside Part.Out → Rose (O.faults out.old) (O.faults out.new) }
+    ensures out_fault { end_of result ≡ End.Outside Part.Out
+        → Rose (O.faults out.old) (O.faults out.new) }
 {
     let shaped = read_job(alloc, tool, job, folder)?;
     let names = restart_names(alloc, job)?;
@@ -306,7 +314,8 @@ fn finish<R: Threads + Sync, F: Folder, O: Sink, E: Sink, G: Gate + Sync>(
         → IfSome (F.held folder.old) (λ files. Ends (plan_for tool asked files)
         (record { files_before = files; files_after = F.held folder.new; out_before = O.held out.old; out_after = O.held out.new })
         result) }
-    ensures apart { (asked : Option Job) → Asks asked job → HasTables asked → folder.new ≡ folder.old }
+    ensures apart { (asked : Option Job) → Asks asked job → HasTables asked
+        → folder.new ≡ folder.old }
     ensures tells { (asked : Option Job) → Asks asked job
         → Tells asked (O.held out.old) (O.held out.new) result }
     ensures message { (asked : Option Job) → Asks asked job
@@ -382,11 +391,13 @@ pub fn run_tool<R: Threads + Sync, F: Folder, O: Sink, E: Sink, G: Gate + Sync>(
 
     // Where no device failed, the end is the one that the words and the files decide, or memory ran out.
     ensures headline { IfSome (F.held folder.old) (λ files.
-        (Rose (F.faults folder.old) (F.faults folder.new) → ⊥) → (Rose (O.faults out.old) (O.faults out.new) → ⊥)
+        (Rose (F.faults folder.old) (F.faults folder.new) → ⊥)
+        → (Rose (O.faults out.old) (O.faults out.new) → ⊥)
         → IsExpected (planned tool words.now files) result.end ⊎ (result.end ≡ End.Memory)) }
 
     // Whether or not a device failed, each end but a device's fault and running out of memory is that one.
-    ensures expected { IfSome (F.held folder.old) (λ files. IsExpectedOr (planned tool words.now files) result.end) }
+    ensures expected { IfSome (F.held folder.old)
+        (λ files. IsExpectedOr (planned tool words.now files) result.end) }
 
     // What then stands in the folder and on standard output.
     ensures leaves { IfSome (F.held folder.old) (λ files. Leaves (planned tool words.now files)
@@ -401,17 +412,20 @@ pub fn run_tool<R: Threads + Sync, F: Folder, O: Sink, E: Sink, G: Gate + Sync>(
 
     // Whether the words are a command's is decided by the words alone; memory may run out while they are read.
     ensures words { result.end ≡ End.Usage → job_of tool words.now ≡ None }
-    ensures usage { job_of tool words.now ≡ None → (result.end ≡ End.Usage) ⊎ (result.end ≡ End.Memory) }
+    ensures usage { job_of tool words.now ≡ None
+        → (result.end ≡ End.Usage) ⊎ (result.end ≡ End.Memory) }
 
     // A device's fault is answered only where its count rose.
     ensures folder_fault { (p : Part) → result.end ≡ End.Outside p → p ≢ Part.Out
         → Rose (F.faults folder.old) (F.faults folder.new) }
-    ensures out_fault { result.end ≡ End.Outside Part.Out → Rose (O.faults out.old) (O.faults out.new) }
+    ensures out_fault { result.end ≡ End.Outside Part.Out
+        → Rose (O.faults out.old) (O.faults out.new) }
 
     ensures code { result.code ≡ code_of result.end }
 
     // At each end but Done, standard error has gained its line, or a prefix of it where that was refused.
-    ensures message { Speaks tool (named_project (job_of tool words.now)) result.end (E.held err.old) (E.held err.new) }
+    ensures message { Speaks tool (named_project (job_of tool words.now)) result.end
+        (E.held err.old) (E.held err.new) }
 {
     let job = read_words(alloc, tool, words);
     let end = finish(rt, alloc, tool, job, folder, out, err, gate);

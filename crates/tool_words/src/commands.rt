@@ -79,9 +79,11 @@ pub(crate) fn matches_in<'a>(
     tool: Tool,
     words: &'a [&'a str],
 ) -> Result<ArgMatches<'a>, Error>
-    ensures refused { FailsBy (fault_of (command_for tool) (map (λ w. w.now) words.entry.now)) result }
+    ensures refused { FailsBy
+        (fault_of (command_for tool) (map (λ w. w.now) words.entry.now)) result }
     ensures read { IfOk result
-        (λ m. rows_of (found_of m) ≡ matches_of (command_for tool) (map (λ w. w.now) words.entry.now)) }
+        (λ m. rows_of (found_of m)
+        ≡ matches_of (command_for tool) (map (λ w. w.now) words.entry.now)) }
 {
     let command = command(alloc, tool)?;
     command.try_get_matches_from(words)

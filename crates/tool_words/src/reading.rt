@@ -95,7 +95,8 @@ fn stands_apart(
     backup: Option<&str>,
     resume: bool,
 ) -> bool
-    ensures { result ≡ is_apart (option_map (λ t. t.now) tables.entry) (option_map (λ t. t.now) project.entry)
+    ensures { result
+        ≡ is_apart (option_map (λ t. t.now) tables.entry) (option_map (λ t. t.now) project.entry)
         (option_map (λ t. t.now) backup.entry) resume }
 {
     match tables {

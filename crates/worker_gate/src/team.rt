@@ -120,8 +120,10 @@ fn recruit_all<'s>(
 fn merge<'s>(board: &Board<'s>, mut team: Vec<Worker<'s>>) -> Result<(Pass, Share<'s>), AllocError>
     requires some { 0 < vec_len team }
     requires done { All (MayMerge board.now) team.items }
-    ensures worker { IfOk result (λ r. IsWorker board.entry.now r.0 r.1 × ((view r.0).done ≡ true)) }
-    ensures weight { IfOk result (λ r. (view r.0).weight ≡ total_of worker_weight team.entry.items) }
+    ensures worker { IfOk result
+        (λ r. IsWorker board.entry.now r.0 r.1 × ((view r.0).done ≡ true)) }
+    ensures weight { IfOk result
+        (λ r. (view r.0).weight ≡ total_of worker_weight team.entry.items) }
     ensures missed { IfOk result (λ r. (view r.0).missed ≡ total_of missed_of team.entry.items) }
     ensures fine { IfOk result (λ r. All IsFine team.entry.items) }
     ensures empty { IfOk result (λ r. All IsEmpty team.entry.items → r.1.blocks ≡ []) }
@@ -158,9 +160,11 @@ fn take_in<'s>(
     requires done { ((view all.old.pass).done ≡ true) × ((view worker.pass).done ≡ true) }
     ensures ready { OnOk result (IsReady board.now all.new) }
     ensures done { OnOk result ((view all.new.pass).done ≡ true) }
-    ensures weight { OnOk result (worker_weight all.new ≡ worker_weight all.old + worker_weight worker.entry) }
+    ensures weight { OnOk result
+        (worker_weight all.new ≡ worker_weight all.old + worker_weight worker.entry) }
     ensures missed { OnOk result (missed_of all.new ≡ missed_of all.old + missed_of worker.entry) }
-    ensures blocks { OnOk result (all.new.share.blocks ≡ all.old.share.blocks ++ worker.entry.share.blocks) }
+    ensures blocks { OnOk result
+        (all.new.share.blocks ≡ all.old.share.blocks ++ worker.entry.share.blocks) }
     ensures same { OnOk result (all.new.failed ≡ all.old.failed) }
 {
     let Worker {

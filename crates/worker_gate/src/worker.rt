@@ -23,7 +23,8 @@ fn put_share<'s, G: Gate>(
     requires { IsWorker board.now pass.old share.old }
     ensures still { IsWorker board.now pass.new share.new }
     ensures leaves { LeavesPass (view pass.old) (view pass.new) }
-    ensures empty { OnOk result ((view pass.new).missed ≡ (view pass.old).missed → share.new.blocks ≡ []) }
+    ensures empty { OnOk result
+        ((view pass.new).missed ≡ (view pass.old).missed → share.new.blocks ≡ []) }
 {
     gate.at(worker, Point::Putting);
     let end = board.put(pass, share);
@@ -71,7 +72,8 @@ pub fn work<'s, G: Gate>(
     ensures gained { KeepsBlocks (view pass.old) (view pass.new) }
     ensures done { OnOk result ((view pass.new).done ≡ true) }
     ensures missed { (view pass.old).missed ≤ (view pass.new).missed }
-    ensures empty { OnOk result ((view pass.new).missed ≡ (view pass.old).missed → share.new.blocks ≡ []) }
+    ensures empty { OnOk result
+        ((view pass.new).missed ≡ (view pass.old).missed → share.new.blocks ≡ []) }
 {
     // so the number of blocks is known to be in range
     let blocks = board.blocks();

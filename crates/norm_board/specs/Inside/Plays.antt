@@ -42,7 +42,24 @@ no_stage = record {
 }
 
 abbrev pub no_plan : Plan
-no_plan = record { blocks = 0; passes = 0; norm = 0; stage = record { marker = record {}; value = no_stage } }
+no_plan = record {
+  blocks = 0;
+  passes = 0;
+  norm = 0;
+  stage = record {
+    marker = record {};
+    value = no_stage;
+  };
+}
 
 abbrev pub spent_view : View
-spent_view = record { weight = 0; done = true; holding = false; found = []; drawn = []; kept = []; missed = 0; plan = no_plan }
+spent_view = record {
+  weight = 0;
+  done = true;
+  holding = false;
+  found = [];
+  drawn = [];
+  kept = [];
+  missed = 0;
+  plan = no_plan;
+}

@@ -32,7 +32,8 @@ impl<'s> Board<'s> {
         requires free { (view pass.old).holding ≡ false }
         requires share { IsBookOf self.now.plan share.old }
         requires blocks { Open (view pass.old) share.old.blocks }
-        ensures same { Belongs self.now pass.new × ((view pass.new).holding ≡ false) × IsBookOf self.now.plan share.new }
+        ensures same { Belongs self.now pass.new × ((view pass.new).holding ≡ false)
+            × IsBookOf self.now.plan share.new }
         ensures done { PutDone result (view pass.old) (view pass.new) share.old share.new }
     {
         let Some(mut turn) = self.take(pass) else {
@@ -78,7 +79,9 @@ impl<'s> Board<'s> {
         requires left { IsBookOf self.plan left }
         requires blocks { HasOpen (view pass) left.blocks }
         ensures ok { IfOk result (IsClosedNorm self.entry.plan.stage.value self.entry.plan.norm) }
-        ensures err { IfErr result (λ r. (r.board ≡ self.entry) × Belongs r.board r.pass × (view r.pass ≡ view pass) × (r.left ≡ left.entry)) }
+        ensures err { IfErr result
+            (λ r. (r.board ≡ self.entry) × Belongs r.board r.pass × (view r.pass ≡ view pass)
+            × (r.left ≡ left.entry)) }
     {
         self.base.keeps();
         let Some(turn) = self.take(&mut pass) else {

@@ -32,8 +32,10 @@ impl<'s> Board<'s> {
         requires small { norm ≤ 9223372036854775807 }
         ensures pass { IfOk result (λ r. Belongs r.0 r.1 × (view r.1 ≡ starting r.0.plan)) }
         ensures passes { IfOk result (λ r. r.0.plan.passes ≡ passes) }
-        ensures stage { IfOk result (λ r. (r.0.plan.stage.value ≡ base.entry.now) × (r.0.plan.norm ≡ norm)) }
-        ensures blocks { IfOk result (λ r. r.0.plan.blocks ≡ blocks_of (pair_count base.entry.now norm)) }
+        ensures stage { IfOk result
+            (λ r. (r.0.plan.stage.value ≡ base.entry.now) × (r.0.plan.norm ≡ norm)) }
+        ensures blocks { IfOk result
+            (λ r. r.0.plan.blocks ≡ blocks_of (pair_count base.entry.now norm)) }
     {
         let pairs = base.pairs_at(norm);
         let plan = Plan {
@@ -65,8 +67,12 @@ impl<'s> Board<'s> {
     pub fn draw(&self, pass: &mut Pass) -> Option<Block>
         requires { Belongs self.now pass.old }
         ensures same { Belongs self.now pass.new }
-        ensures block { IfSome result (λ b. IsBlockOf self.now.plan.stage.value self.now.plan.norm b × (b.number < self.now.plan.blocks)) }
-        ensures some { IfSome result (λ b. (view pass.new ≡ gained (view pass.old) b.number) × AllUnder (view pass.old).drawn b.number) }
+        ensures block { IfSome result
+            (λ b. IsBlockOf self.now.plan.stage.value self.now.plan.norm b
+            × (b.number < self.now.plan.blocks)) }
+        ensures some { IfSome result
+            (λ b. (view pass.new ≡ gained (view pass.old) b.number)
+            × AllUnder (view pass.old).drawn b.number) }
         ensures none { IfNone result (view pass.new ≡ finished (view pass.old)) }
     {
         if pass.done {
@@ -106,7 +112,8 @@ impl<'s> Board<'s> {
         requires free { (view other).holding ≡ false }
         ensures same { Belongs self.now pass.new }
         ensures view { view pass.new ≡ joined (view pass.old) (view other) }
-        ensures apart { (x : ℕ) → times x (view pass.new).drawn ≤ once_below x self.now.plan.blocks }
+        ensures apart { (x : ℕ)
+            → times x (view pass.new).drawn ≤ once_below x self.now.plan.blocks }
     {
         let Pass {
             seat,

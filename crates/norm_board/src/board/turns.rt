@@ -17,8 +17,11 @@ impl<'s> Board<'s> {
         requires free { (view pass.old).holding ≡ false }
         ensures same { Belongs self.now pass.new }
         ensures clean { (view pass.old).found ≡ [] }
-        ensures some { IfSome result (λ t. (view pass.new ≡ taking (view pass.old) t.blocks) × KnowsBook (view pass.old) t) }
-        ensures none { IfNone result ((view pass.new ≡ missing (view pass.old)) × ((view pass.old).weight < self.now.plan.passes)) }
+        ensures some { IfSome result
+            (λ t. (view pass.new ≡ taking (view pass.old) t.blocks) × KnowsBook (view pass.old) t) }
+        ensures none { IfNone result
+            ((view pass.new ≡ missing (view pass.old))
+            × ((view pass.old).weight < self.now.plan.passes)) }
     {
         if self.table.shared.swap::<Take>(&mut pass.seat, 1, 1) != 0 {
             return None;

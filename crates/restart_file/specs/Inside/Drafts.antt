@@ -18,7 +18,13 @@ use Rattle.restart_file.specs.Texts.{Progress, system_lines}
 use Rattle.restart_file.specs.Reading.{Cursor, Follows, HasFault, HasNoStageRow, IsStagePlace, IsRow, ReadsToEnd, at}
 
 abbrev pub progress_in : Draft → Progress
-progress_in d = record { number = d.number; norm = d.norm; used = d.used; listed = d.listed.rows; waiting = d.waiting.rows }
+progress_in d = record {
+  number = d.number;
+  norm = d.norm;
+  used = d.used;
+  listed = d.listed.rows;
+  waiting = d.waiting.rows;
+}
 
 abbrev pub cursor_of : Draft → Cursor
 cursor_of d = at d.version d.due (progress_in d)

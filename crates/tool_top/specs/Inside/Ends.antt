@@ -60,7 +60,8 @@ end_of_stopped s = end_of_run s.next s.end
 
 -- what the run of a job came to, where it broke off with the name of the restart file of its next backup
 abbrev pub came_for : Job → Result Finish Stopped → Result LiftEnd (List ℕ)
-came_for job result = came_to (file_name (project_of job) Ckp0) (file_name (project_of job) Ckp1) result
+came_for job result =
+    came_to (file_name (project_of job) Ckp0) (file_name (project_of job) Ckp1) result
 
 -- the words are refused
 abbrev pub end_of_words : WordEnd → End

@@ -66,7 +66,8 @@ CutsTo project outputs old new Memory = (part : Part) × IsCutAt project outputs
 CutsTo project outputs old new end = ⊥
 
 -- the summary of outputs that are written was put
-pub record IsTold (job : Job) (outputs : List OutputFile) (used : ℕ) (old new : Option (List ℕ)) (totals : Totals) : Type 0 where
+pub record IsTold (job : Job) (outputs : List OutputFile) (used : ℕ) (old new : Option (List ℕ))
+    (totals : Totals) : Type 0 where
   pub solutions_are : totals.solutions ≡ total_rows outputs
   pub pairs_are : totals.pairs ≡ used
   pub norms_are : totals.norm_total ≡ norms_in outputs
