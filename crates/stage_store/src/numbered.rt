@@ -47,7 +47,7 @@ impl Hints {
         requires { length sum.now ≡ width stage.now.system.equations + 1 }
         ensures { IsTrue result → IsReduced stage.now.listed sum.now }
     {
-        match place_below(&self.reducers, stage, sum) {
+        match reducer_below(&self.reducers, stage, sum) {
             Some(k) => {
                 self.reducers.swap(k.saturating_sub(1), k);
                 true
@@ -106,7 +106,7 @@ fn slot_of(sum: &[i64]) -> usize {
 }
 
 /// Which of some places has a listed row that is below a sum.
-fn place_below(places: &[u32], stage: &Stage, sum: &[i64]) -> Option<usize>
+fn reducer_below(places: &[u32], stage: &Stage, sum: &[i64]) -> Option<usize>
     requires { length sum.now ≡ width stage.now.system.equations + 1 }
     ensures inside { IfSome result (λ k. k < length places.now) }
     ensures reduced { IfSome result (λ _. IsReduced stage.now.listed sum.now) }
