@@ -9,17 +9,16 @@ use Rattle.int_vector.specs.Operations.{add}
 use Rattle.lift_core.specs.Systems.{LinearSystem}
 use Rattle.lift_core.specs.Stages.{stage_norm, IsPair, IsNextNorm}
 use Rattle.lift_core.specs.PairSums.{HasSum, IsIrreducible}
-use Rattle.lift_core.specs.Halves.{IsReducibleByHalf}
+use Rattle.lift_core.specs.Halves.{IsReducible, IsReducibleByHalf}
 use Rattle.lift_core.proofs.Growth.{stage_sum}
 use Rattle.lift_core.proofs.Lists.{each_contained}
 use Rattle.lift_core.proofs.SmallHalf.{halves_decide, norms_add}
 use Rattle.stage_store.specs.Stage.{StageValue, IsStage, IsStageRow, IsDefined}
-use Rattle.stage_store.specs.Found.{IsReduced}
 use Rattle.stage_store.specs.Opened.{AreEnough}
 
 -- all of them are
 pub all_enough : (s : StageValue) (e count : ℕ) → count ≡ length s.listed → AreEnough s e count
-all_enough s e count is = λ f g pair norms sum r. subst (λ (l : List (List ℤ)). IsReduced l (add f g)) (sym (take_all count s.listed (omega (arith, is)))) r
+all_enough s e count is = λ f g pair norms sum r. subst (λ (l : List (List ℤ)). IsReducible l (add f g)) (sym (take_all count s.listed (omega (arith, is)))) r
 
 -- a row that stands among the first ones
 among_first : (rows : List (List ℤ)) (count : ℕ) (u : List ℤ) → count ≤ length rows → (c : Contains rows u) → c.0 < count → Contains (take count rows) u

@@ -10,7 +10,8 @@ use Rattle.lift_core.specs.PairSums.{HasSum, IsIrreducible, IsNewSum}
 use Rattle.lift_core.proofs.Lists.{contains_cases, contains_head, contains_nothing}
 use Rattle.stage_store.specs.Stage.{StageValue, IsStage}
 use Rattle.stage_store.specs.Classes.{pairs_of, row_at, IsPairAt}
-use Rattle.stage_store.specs.Found.{IsSumOf, IsReduced}
+use Rattle.lift_core.specs.Halves.{IsReducible}
+use Rattle.stage_store.specs.Found.{IsSumOf}
 use Rattle.std.proofs.Common.{get_or, Less, take, drop, length-append}
 use Rattle.std.proofs.lemmas.List.{length-take-le}
 use Rattle.std.specs.List.Sorted.{IsStrictlySortedBy, IsNonDecreasingBy}
@@ -110,7 +111,7 @@ module _ (s : StageValue) (e : ℕ) where
       ],
     )
 
-    pub reduced : (rows : List (List ℤ)) (out : List ℤ) → out ≡ add (row_at s.listed i) (row_at s.listed j) → IsReduced s.listed out → GainsNumbered s e p (p + 1) rows rows
+    pub reduced : (rows : List (List ℤ)) (out : List ℤ) → out ≡ add (row_at s.listed i) (row_at s.listed j) → IsReducible s.listed out → GainsNumbered s e p (p + 1) rows rows
     reduced rows out is r z = (
       λ c. inl c,
       λ t. elim t [

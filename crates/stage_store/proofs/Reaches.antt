@@ -12,7 +12,8 @@ use Rattle.int_vector.proofs.Vectors.{below_trans}
 use Rattle.lift_core.specs.Systems.{LinearSystem}
 use Rattle.lift_core.specs.Stages.{front, last}
 use Rattle.stage_store.specs.Classes.{row_at}
-use Rattle.stage_store.specs.Found.{IsReduced, IsSumOf}
+use Rattle.lift_core.specs.Halves.{IsReducible}
+use Rattle.stage_store.specs.Found.{IsSumOf}
 use Rattle.stage_store.specs.Reaches.{entry_against, with_reach, IsReachOr, AreReaches, AreFarApart}
 use Rattle.stage_store.specs.Sieve.{HasNoNewSum}
 use Rattle.std.proofs.Common.{subst₂, Option, Some, None}
@@ -108,10 +109,10 @@ far_rows S listed f g u v w r o a b n m h p q =
     (subst₂ (λ (x y : ℤ). AreFarApart x y r o) (sym (last-get_or u w (pos 0) n) ∙ ap last a) (sym (last-get_or v w (pos 0) m) ∙ ap last b) h) p q
 
 pub found_reduces : (result : Option RowId) (tree : TreeValue) (listed : PoolValue) (z : List ℤ) → HoldsRows tree listed → MatchOption result (AreNotBelow (places_of tree) listed.rows z) (λ id. Contains (places_of tree) id.0 × (get_or listed.rows id.0 [] ⊑ z))
-    → IfSome result (λ id. (id.0 < length listed.rows) × IsReduced listed.rows z)
+    → IfSome result (λ id. (id.0 < length listed.rows) × IsReducible listed.rows z)
 found_reduces result tree listed z h found = go result (find_result result tree listed listed.rows z h refl found)
   where
-    go : (r : Option RowId) → MatchOption r (IsIrreducible listed.rows z) (λ id. (id.0 < length listed.rows) × (get_or listed.rows id.0 [] ⊑ z)) → IfSome r (λ id. (id.0 < length listed.rows) × IsReduced listed.rows z)
+    go : (r : Option RowId) → MatchOption r (IsIrreducible listed.rows z) (λ id. (id.0 < length listed.rows) × (get_or listed.rows id.0 [] ⊑ z)) → IfSome r (λ id. (id.0 < length listed.rows) × IsReducible listed.rows z)
     go None k = tt
     go (Some id) k = (k.0, (get_or listed.rows id.0 [], Contains-get_or listed.rows id.0 [] k.0, k.1))
 

@@ -1,9 +1,9 @@
 -- The sums of pairs that are found on the way through the pairs of a norm.
 use Rattle.std.specs.Prelude.{◌≡◌, ℕ, ◌<◌, ◌≤◌, List, ℤ, length}
-use Rattle.std.specs.List.{AllByRecursion, Contains}
+use Rattle.std.specs.List.{AllByRecursion}
 use Rattle.std.specs.List.Sorted.{IsStrictlySortedBy}
 use Rattle.std.specs.declared.cmp.Ordering.TheVariants.{Less}
-use Rattle.int_vector.specs.Vectors.{◌⊑◌, lex_cmp}
+use Rattle.int_vector.specs.Vectors.{lex_cmp}
 use Rattle.int_vector.specs.Operations.{add}
 use Rattle.lift_core.specs.Systems.{LinearSystem}
 use Rattle.lift_core.specs.PairSums.{HasSum, IsIrreducible}
@@ -21,10 +21,6 @@ pub record ComesAt (rows : List (List ℤ)) (z : List ℤ) (place : ℕ) : Type 
   pub within : place ≤ length rows
   pub before : (k : ℕ) → k < place → lex_cmp (row_at rows k) z ≡ Less
   pub behind : (k : ℕ) → place ≤ k → k < length rows → lex_cmp z (row_at rows k) ≡ Less
-
--- a listed row is below z
-abbrev pub IsReduced : List (List ℤ) → List ℤ → Type 0
-IsReduced listed z = (u : List ℤ) × Contains listed u × (u ⊑ z)
 
 -- z is the irreducible sum of f and g
 pub record IsSumOf (S : LinearSystem) (listed : List (List ℤ)) (f g z : List ℤ) : Type 0 where

@@ -3,7 +3,8 @@
 use Rattle.std.specs.Prelude.{◌≡◌, ℕ, ◌*◌, ◌/◌, ◌%◌, ◌<◌, ◌≤◌, ◌^◌, Bool, true, false, ℤ, pos, ◌+ℤ◌, ◌<ℤ◌, ◌≤ℤ◌, nat_abs, List, length, slice_index_or, slice_set, Option, Some, None, ◌==◌}
 use Rattle.lift_core.specs.Systems.{LinearSystem}
 use Rattle.int_vector.specs.Vectors.{IsWithin}
-use Rattle.stage_store.specs.Found.{IsSumOf, IsReduced}
+use Rattle.lift_core.specs.Halves.{IsReducible}
+use Rattle.stage_store.specs.Found.{IsSumOf}
 use Rattle.stage_store.specs.Signs.{IsSigned}
 use Rattle.stage_store.specs.Reaches.{with_reach}
 use Rattle.stage_store.specs.Lines.{IsSaid}
@@ -68,7 +69,7 @@ pub record IsNear (listed : List (List ℤ)) (f : List ℤ) (column : ℕ) (posi
     (level : ℕ) : Type 0 where
   pub entry : ℤ
   pub raised : IsRaised positive level (slice_index_or f column (pos 0)) entry
-  pub reduced : IsReduced listed (slice_set (with_reach f 0) column entry)
+  pub reduced : IsReducible listed (slice_set (with_reach f 0) column entry)
 
 -- where it is one of the levels, it is near
 abbrev pub IsNearOr : List (List ℤ) → List ℤ → ℕ → Bool → ℕ → Type 0

@@ -7,7 +7,8 @@ use Rattle.lift_core.specs.Stages.{stage_norm, IsPair}
 use Rattle.lift_core.specs.PairSums.{HasSum}
 use Rattle.stage_store.specs.Stage.{StageValue, IsDefined}
 use Rattle.stage_store.specs.Classes.{ClassValue, IsPairAt, pairs_of, part_size, ids_of, ids_at, norm_at}
-use Rattle.stage_store.specs.Found.{IsSumOf, IsReduced}
+use Rattle.lift_core.specs.Halves.{IsReducible}
+use Rattle.stage_store.specs.Found.{IsSumOf}
 use Rattle.stage_store.specs.Numbered.{pair_at}
 use Rattle.stage_store.specs.declared.sieve.KeptPair.{KeptPair}
 use Rattle.stage_store.specs.declared.opened.OpenPair.{OpenPair}
@@ -98,7 +99,7 @@ abbrev pub AreEnough : StageValue → ℕ → ℕ → Type 0
 AreEnough s e count =
     (f g : List ℤ) → IsPair s.listed f g → stage_norm f + stage_norm g ≡ e
     → HasSum s.system.equations f g
-    → IsReduced s.listed (add f g) → IsReduced (take count s.listed) (add f g)
+    → IsReducible s.listed (add f g) → IsReducible (take count s.listed) (add f g)
 
 -- what is said of the lists holds, and what is said of a norm's open pairs, once they are known
 pub record IsAhead (s : StageValue) (o : Opened) : Type 0 where

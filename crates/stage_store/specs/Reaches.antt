@@ -1,7 +1,7 @@
 -- How far the last entries of two rows are apart where their sum has a listed row below it.
 use Rattle.std.specs.Prelude.{◌⊎◌, ℕ, ◌+◌, ◌<◌, ◌≤◌, List, [], ◌∷◌, ℤ, pos, ◌<ℤ◌, neg_ℤ, nat_abs, int_lt, cond, length, slice_index_or}
 use Rattle.stage_store.specs.Classes.{row_at}
-use Rattle.stage_store.specs.Found.{IsReduced}
+use Rattle.lift_core.specs.Halves.{IsReducible}
 
 -- the entry with an absolute value, and the sign against another's
 abbrev pub entry_against : ℤ → ℕ → ℤ
@@ -15,7 +15,7 @@ with_reach (x ∷ y ∷ z) r = x ∷ with_reach (y ∷ z) r
 
 -- a reach of the row is known, and a listed row is below it with the reach; or none is known
 abbrev pub IsReachOr : List (List ℤ) → List ℤ → ℕ → Type 0
-IsReachOr listed row r = 0 < r → IsReduced listed (with_reach row r)
+IsReachOr listed row r = 0 < r → IsReducible listed (with_reach row r)
 
 abbrev pub AreReaches : List (List ℤ) → List ℕ → Type 0
 AreReaches listed reaches =

@@ -10,7 +10,7 @@ ghost use Rattle.std.specs.List.{Contains};
 ghost use Rattle.lift_core.specs.ToolSystems.{width};
 ghost use Rattle.stage_store.specs.Indexed.{HoldsRows};
 ghost use Rattle.stage_store.specs.Levels.{BarsLine, ReachesLine, AreTrue, IsOnSide, IsRaised, IsNear, IsNearOr, IsAgainst, IsFull, IsBarLevel, IsReachLevel};
-ghost use Rattle.stage_store.specs.Found.{IsReduced};
+ghost use Rattle.lift_core.specs.Halves.{IsReducible};
 
 use crate::left::Left;
 use crate::reach::{fill_probe, find_listed};
@@ -81,7 +81,7 @@ fn fill_raised(row: &[i64], column: usize, positive: bool, level: u8, probe: &mu
     requires lengths { length row.now ≡ length probe.old }
     requires side { IsOnSide positive (slice_index_or row.now column (pos 0)) }
     ensures length { length probe.new ≡ length probe.old }
-    ensures raised { (listed : List (List ℤ)) → IsReduced listed probe.new → IsNear listed row.now column positive level }
+    ensures raised { (listed : List (List ℤ)) → IsReducible listed probe.new → IsNear listed row.now column positive level }
 {
     fill_probe(row, 0, probe);
     probe[column] = raised(row[column], positive, level);

@@ -5,7 +5,7 @@ ghost use Rattle.std.specs.List.{Contains};
 ghost use Rattle.std.specs.List.Sorted.{IsNonDecreasingBy};
 ghost use Rattle.lift_core.specs.ToolSystems.{width};
 ghost use Rattle.stage_store.specs.Classes.{pairs_of, IsPairAt};
-ghost use Rattle.stage_store.specs.Found.{IsReduced};
+ghost use Rattle.lift_core.specs.Halves.{IsReducible};
 ghost use Rattle.stage_store.specs.Numbered.{GainsNumbered, HasNoneBetween};
 ghost use Rattle.stage_store.specs.Opened.{AreEnough, IsOpen, open_number};
 
@@ -45,7 +45,7 @@ impl Hints {
     /// Whether a row that is known as a reducer is below a sum. It comes nearer to the front.
     fn is_reduced(&mut self, stage: &Stage, sum: &[i64]) -> bool
         requires { length sum.now ≡ width stage.now.system.equations + 1 }
-        ensures { IsTrue result → IsReduced stage.now.listed sum.now }
+        ensures { IsTrue result → IsReducible stage.now.listed sum.now }
     {
         match reducer_below(&self.reducers, stage, sum) {
             Some(k) => {
@@ -109,7 +109,7 @@ fn slot_of(sum: &[i64]) -> usize {
 fn reducer_below(places: &[u32], stage: &Stage, sum: &[i64]) -> Option<usize>
     requires { length sum.now ≡ width stage.now.system.equations + 1 }
     ensures inside { IfSome result (λ k. k < length places.now) }
-    ensures reduced { IfSome result (λ _. IsReduced stage.now.listed sum.now) }
+    ensures reduced { IfSome result (λ _. IsReducible stage.now.listed sum.now) }
 {
     for k in 0..places.len() {
         if places[k] < stage.len() && below(stage.row(RowId(places[k])), sum) {

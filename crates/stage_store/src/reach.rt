@@ -5,7 +5,7 @@
 //! f: it bounds the partners that are to be looked at. Any such row will do; the one with the least |t| serves most.
 
 ghost use Rattle.std.specs.Prelude.{◌≡◌, ◌↔◌, ◌+◌, ◌<◌, ◌≤◌, List, ℤ, length, pos, slice_index_or, All, IfSome, IsTrue};
-ghost use Rattle.stage_store.specs.Found.{IsReduced};
+ghost use Rattle.lift_core.specs.Halves.{IsReducible};
 ghost use Rattle.stage_store.specs.Indexed.{HoldsRows};
 ghost use Rattle.std.specs.List.{Contains};
 ghost use Rattle.lift_core.specs.Systems.{LinearSystem};
@@ -48,7 +48,7 @@ pub fn fill_probe(row: &[i64], reach: u64, probe: &mut [i64])
 pub fn find_listed(listed: &Pool, tree: &Tree, z: &[i64]) -> Option<RowId>
     requires indexed { HoldsRows tree.now listed.now }
     requires width { length z.now ≡ listed.now.width }
-    ensures { IfSome result (λ id. (id.0 < length listed.now.rows) × IsReduced listed.now.rows z.now) }
+    ensures { IfSome result (λ id. (id.0 < length listed.now.rows) × IsReducible listed.now.rows z.now) }
 {
     tree.find_below(listed, z, &mut Visits { count: 0 })
 }
