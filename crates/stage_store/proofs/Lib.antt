@@ -19,7 +19,6 @@ pub mod ClosedNorm
 pub mod UnitVectors
 pub mod FirstRows
 pub mod Starting
-pub mod Ordered
 pub mod NumberedSums
 pub mod Sorting
 pub mod CountedPairs

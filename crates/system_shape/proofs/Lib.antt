@@ -7,4 +7,3 @@ pub mod UserRows
 pub mod Building
 pub mod Examples
 pub mod Counted
-pub mod Answered
