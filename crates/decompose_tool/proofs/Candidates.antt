@@ -16,7 +16,7 @@ use Rattle.system_shape.specs.Shape.{has_x0}
 use Rattle.system_files.specs.Kernel.{rows_in}
 use Rattle.system_files.proofs.Negatives.{negated_twice}
 use Rattle.decompose_tool.specs.declared.reading.Sets.{Sets}
-use Rattle.decompose_tool.specs.Rows.{Part, IsSound, AreSound, is_zero, unless_zero, AreOfRow, AreOfRows, AreCandidates, set_parts, second_part, HoldWanted, HoldsHomogeneous}
+use Rattle.decompose_tool.specs.Rows.{Part, IsSoundRow, AreSound, is_zero, unless_zero, AreOfRow, AreOfRows, AreCandidates, set_parts, second_part, HoldWanted, HoldsHomogeneous}
 
 -- ---- a vector unless it is zero
 pub zero_of_test : (v : List ℤ) → is_zero v ≡ true → IsZero v
@@ -88,7 +88,7 @@ of_row Graver U c x us s (inr h) = subst (AllByRecursion (IsSolutions U)) (sym h
 of_row Hilbert U c x us s h = subst (AllByRecursion (IsSolutions U)) (sym h) (one_solution's U c x s)
 of_row Zsolve U c x us s h = subst (AllByRecursion (IsSolutions U)) (sym h) (one_solution's U c x s)
 
-of_rows : (tool : Tool) (U : UserSystem) (c : ℤ) (rows us : List (List ℤ)) → AllByRecursion (IsSound U c) rows → AreOfRows tool U c rows us → AllByRecursion (IsSolutions U) us
+of_rows : (tool : Tool) (U : UserSystem) (c : ℤ) (rows us : List (List ℤ)) → AllByRecursion (IsSoundRow U c) rows → AreOfRows tool U c rows us → AllByRecursion (IsSolutions U) us
 of_rows tool U c [] us s h = subst (AllByRecursion (IsSolutions U)) (sym h) tt
 of_rows tool U c (x ∷ rows) us s h =
     subst (AllByRecursion (IsSolutions U)) (sym h.4)

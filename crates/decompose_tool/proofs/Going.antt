@@ -13,19 +13,19 @@ use Rattle.decompose_tool.specs.declared.walking.Walk.{Walk}
 use Rattle.decompose_tool.specs.Ends.{row_of_term, rows_of_terms}
 use Rattle.decompose_tool.specs.Rows.{is_zero, unless_zero}
 use Rattle.decompose_tool.specs.Walks.{times, IsMost, Term}
-use Rattle.decompose_tool.specs.Inside.Steps.{cells_of, IsOpen, GoesOn}
+use Rattle.decompose_tool.specs.Inside.Steps.{cells_of, HasRest, WalksOn}
 use Rattle.decompose_tool.proofs.Walks.{walk_append}
 use Rattle.decompose_tool.proofs.Candidates.{kept_vector, dropped_vector, each_append}
 
-pub goes_nowhere : (n : ℕ) (w : Walk) → GoesOn n [] w w
+pub goes_nowhere : (n : ℕ) (w : Walk) → WalksOn n [] w w
 goes_nowhere n w = record { terms = []; walk = (refl, refl); rows = tt; cells = sym (append-nil w.cells.items); count = omega arith }
 
-pub goes_past : (n : ℕ) (u : List ℤ) (w : Walk) → is_zero u ≡ true → GoesOn n (unless_zero u) w w
-goes_past n u w e = subst (λ (us : List (List ℤ)). GoesOn n us w w) (sym (dropped_vector u e)) (goes_nowhere n w)
+pub goes_past : (n : ℕ) (u : List ℤ) (w : Walk) → is_zero u ≡ true → WalksOn n (unless_zero u) w w
+goes_past n u w e = subst (λ (us : List (List ℤ)). WalksOn n us w w) (sym (dropped_vector u e)) (goes_nowhere n w)
 
-pub goes_by : (n : ℕ) (u : List ℤ) (w : Walk) → is_zero u ≡ false → IsMost u w.rest.items 0 → GoesOn n (unless_zero u) w w
+pub goes_by : (n : ℕ) (u : List ℤ) (w : Walk) → is_zero u ≡ false → IsMost u w.rest.items 0 → WalksOn n (unless_zero u) w w
 goes_by n u w e m =
-    subst (λ (us : List (List ℤ)). GoesOn n us w w) (sym (kept_vector u e))
+    subst (λ (us : List (List ℤ)). WalksOn n us w w) (sym (kept_vector u e))
     (record { terms = []; walk = inl (m, (refl, refl)); rows = tt; cells = sym (append-nil w.cells.items); count = omega arith })
 
 range_taken : (n : ℕ) (u : List ℤ) → AllByRecursion InRange u → AllByRecursion InRange (take n u)
@@ -37,9 +37,9 @@ term_row : (n c : ℕ) (u : List ℤ) → c ≤ largest → n ≤ length u → A
 term_row n c u small l r = ((omega (arith, length-take n u), (small, range_taken n u r)), tt)
 
 pub goes_with : (n c : ℕ) (u : List ℤ) (old new : Walk) → is_zero u ≡ false → IsMost u old.rest.items c → 1 ≤ c → c ≤ largest → n ≤ length u → AllByRecursion InRange u →
-    new.rest.items ≡ subtract old.rest.items (times c u) → new.cells.items ≡ (old.cells.items ++ pos c ∷ []) ++ take n u → new.terms ≡ old.terms + 1 → GoesOn n (unless_zero u) old new
+    new.rest.items ≡ subtract old.rest.items (times c u) → new.cells.items ≡ (old.cells.items ++ pos c ∷ []) ++ take n u → new.terms ≡ old.terms + 1 → WalksOn n (unless_zero u) old new
 goes_with n c u old new e m some small l range rest cells count =
-    subst (λ (us : List (List ℤ)). GoesOn n us old new) (sym (kept_vector u e))
+    subst (λ (us : List (List ℤ)). WalksOn n us old new) (sym (kept_vector u e))
     (record {
       terms = record { count = c; vector = u } ∷ [];
       walk = inr (c, [], some, m, refl, (refl, sym rest));
@@ -54,7 +54,7 @@ rows_append n terms more = map-append (row_of_term n) terms more
 cells_append : (n : ℕ) (terms more : List Term) → cells_of n (terms ++ more) ≡ cells_of n terms ++ cells_of n more
 cells_append n terms more = ap (flat_map (λ row. row)) (rows_append n terms more) ∙ flat_map-append (λ row. row) (rows_of_terms n terms) (rows_of_terms n more)
 
-pub goes_append : (n : ℕ) (us vs : List (List ℤ)) (old mid new : Walk) → GoesOn n us old mid → GoesOn n vs mid new → GoesOn n (us ++ vs) old new
+pub goes_append : (n : ℕ) (us vs : List (List ℤ)) (old mid new : Walk) → WalksOn n us old mid → WalksOn n vs mid new → WalksOn n (us ++ vs) old new
 goes_append n us vs old mid new h k = record {
   terms = h.terms ++ k.terms;
   walk = walk_append us vs old.rest.items mid.rest.items new.rest.items h.terms k.terms h.walk k.walk;
@@ -69,7 +69,7 @@ range_below [] v h r = tt
 range_below (x ∷ u) [] h r = absurd h
 range_below (x ∷ u) (y ∷ v) h r = (let l : nat_abs x ≤ nat_abs y = (h.0).no_larger in let m : nat_abs y ≤ largest = r.0 in omega arith, range_below u v h.1 r.1)
 
-pub open_after : (c w : ℕ) (u : List ℤ) (old new : Walk) → times c u ⊑ old.rest.items → new.rest.items ≡ subtract old.rest.items (times c u) → IsOpen w old → IsOpen w new
+pub open_after : (c w : ℕ) (u : List ℤ) (old new : Walk) → times c u ⊑ old.rest.items → new.rest.items ≡ subtract old.rest.items (times c u) → HasRest w old → HasRest w new
 open_after c w u old new b e o =
     let below : subtract old.rest.items (times c u) ⊑ old.rest.items = difference_below (times c u) old.rest.items b in record {
       width = ap length e ∙ length-below (subtract old.rest.items (times c u)) old.rest.items below ∙ o.width;

@@ -24,7 +24,7 @@ use Rattle.decompose_tool.specs.declared.reading.Sets.{Sets}
 use Rattle.decompose_tool.specs.declared.walking.Walk.{Walk}
 use Rattle.decompose_tool.specs.Requests.{asked_in}
 use Rattle.decompose_tool.specs.Sets.{Plan, first_file, fitting, second_fitting, point_fitting, all_fitting, sets_in, of_input, planned}
-use Rattle.decompose_tool.specs.Rows.{is_zero, times_of, set_parts, point_of, IsSound, AreSound, HoldWanted}
+use Rattle.decompose_tool.specs.Rows.{is_zero, times_of, set_parts, point_of, IsSoundRow, AreSound, HoldWanted}
 use Rattle.decompose_tool.specs.Ends.{end_of, EndsWith, Ends, NothingLeft, planned_system, AreAllSound}
 use Rattle.decompose_tool.specs.Inside.Steps.{user_of, IsRead, AreInShape, Walked, plan_of}
 use Rattle.decompose_tool.proofs.Candidates.{test_of_zero, each_first, each_second, of_parts, all_there}
@@ -146,10 +146,10 @@ left_finished project s sets sound walk w (Some files) out rest e f =
     subst (λ (r : List ℤ). EndsWith (plan_of project s sets) (record { files_before = files; files_after = Some files; out_before = out; out_after = out }) (Ok (Left r))) (sym f)
     (left_ends project s sets sound walk w (record { files_before = files; files_after = Some files; out_before = out; out_after = out }) e (record { files = refl; out = refl }))
 
-point_sound : (s : Shaped) (sets : Sets) (project : List ℕ) → AreInShape s.input.mat.cols sets → AreAllSound (plan_of project s sets) → IsSound (user_of s) (times_of s.system.tool) (point_of sets)
+point_sound : (s : Shaped) (sets : Sets) (project : List ℕ) → AreInShape s.input.mat.cols sets → AreAllSound (plan_of project s sets) → IsSoundRow (user_of s) (times_of s.system.tool) (point_of sets)
 point_sound s sets project shape sound =
     let last = each_second (AreSound (user_of s)) (set_parts s.system.tool sets) _ sound in
-    each_at (IsSound (user_of s) (times_of s.system.tool)) (rows_in sets.point) 0 [] last.0 (omega (arith, length-cut_rows sets.point.rows sets.point.cols sets.point.cells, shape.row))
+    each_at (IsSoundRow (user_of s) (times_of s.system.tool)) (rows_in sets.point) 0 [] last.0 (omega (arith, length-cut_rows sets.point.rows sets.point.cols sets.point.cells, shape.row))
 
 pub never_left : (project : List ℕ) (s : Shaped) (sets : Sets) (walk : Walk) → IsRead s → AreInShape s.input.mat.cols sets → AreAllSound (plan_of project s sets) → Walked s sets walk →
     is_zero walk.rest.items ≡ false → HoldWanted s.system.tool (user_of s) sets → ⊥

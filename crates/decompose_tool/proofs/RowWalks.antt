@@ -12,7 +12,7 @@ use Rattle.decompose_tool.specs.declared.reading.Sets.{Sets}
 use Rattle.decompose_tool.specs.declared.walking.Walk.{Walk}
 use Rattle.decompose_tool.specs.Rows.{times_of, point_of, second_part, unless_zero, AreOfRow, AreOfRows}
 use Rattle.decompose_tool.specs.Walks.{IsWalk}
-use Rattle.decompose_tool.specs.Inside.Steps.{user_of, IsRead, Obeys, IsStart, Walked, GoesOn, GoesOnWhere, GoesOverRow, GoesOverRows, GoesOverParts, cells_of}
+use Rattle.decompose_tool.specs.Inside.Steps.{user_of, IsRead, Obeys, IsAllLeft, Walked, WalksOn, GoesOnWhere, GoesOverRow, GoesOverRows, GoesOverParts, cells_of}
 use Rattle.decompose_tool.proofs.FullVectors.{no_x0, zero_times}
 use Rattle.decompose_tool.proofs.Going.{goes_append}
 use Rattle.decompose_tool.proofs.Opposite.{full_negated, opposite}
@@ -20,18 +20,18 @@ use Rattle.decompose_tool.proofs.Opposite.{full_negated, opposite}
 -- ---- one row
 -- a row of hilbert or zsolve
 pub plain_row : (tool : Tool) (U : UserSystem) (c : ℤ) (x : List ℤ) (n k : ℕ) (v : List ℤ) (old new : Walk) → (tool ≡ Hilbert) ⊎ (tool ≡ Zsolve) → k ≡ n → v ≡ full_vector U c x →
-    GoesOn k (unless_zero v) old new → GoesOverRow n tool U c x old new
+    WalksOn k (unless_zero v) old new → GoesOverRow n tool U c x old new
 plain_row tool U c x n k v old new (inl e) l f h =
-    (unless_zero (full_vector U c x), subst (λ (t : Tool). AreOfRow t U c x (unless_zero (full_vector U c x))) (sym e) refl, subst₂ (λ (m : ℕ) (w : List ℤ). GoesOn m (unless_zero w) old new) l f h)
+    (unless_zero (full_vector U c x), subst (λ (t : Tool). AreOfRow t U c x (unless_zero (full_vector U c x))) (sym e) refl, subst₂ (λ (m : ℕ) (w : List ℤ). WalksOn m (unless_zero w) old new) l f h)
 plain_row tool U c x n k v old new (inr e) l f h =
-    (unless_zero (full_vector U c x), subst (λ (t : Tool). AreOfRow t U c x (unless_zero (full_vector U c x))) (sym e) refl, subst₂ (λ (m : ℕ) (w : List ℤ). GoesOn m (unless_zero w) old new) l f h)
+    (unless_zero (full_vector U c x), subst (λ (t : Tool). AreOfRow t U c x (unless_zero (full_vector U c x))) (sym e) refl, subst₂ (λ (m : ℕ) (w : List ℤ). WalksOn m (unless_zero w) old new) l f h)
 
 graver_at_zero : (s : Shaped) (x : List ℤ) (n : ℕ) (v : List ℤ) (old mid new : Walk) → IsRead s → s.system.tool ≡ Graver → IsUserSolution (user_of s) (pos 0) x → v ≡ full_vector (user_of s) (pos 0) x →
-    GoesOn n (unless_zero v) old mid → GoesOnWhere (Obeys s.system.equations (negated v)) n (unless_zero (negated v)) mid new → GoesOverRow n Graver (user_of s) (pos 0) x old new
+    WalksOn n (unless_zero v) old mid → GoesOnWhere (Obeys s.system.equations (negated v)) n (unless_zero (negated v)) mid new → GoesOverRow n Graver (user_of s) (pos 0) x old new
 graver_at_zero s x n v old mid new r e h f one two =
     let U = user_of s in
     let u = full_vector U (pos 0) x in
-    let first : GoesOn n (unless_zero u) old mid = subst (λ (w : List ℤ). GoesOn n (unless_zero w) old mid) f one in
+    let first : WalksOn n (unless_zero u) old mid = subst (λ (w : List ℤ). WalksOn n (unless_zero w) old mid) f one in
     let both : Obeys (linear_system U) (negated u) ↔ IsUserSolution U (pos 0) (negated x) = opposite U r.shaped.formed (no_x0 s e) x h in
     let second : GoesOnWhere (Obeys (linear_system U) (negated u)) n (unless_zero (negated u)) mid new =
     subst (λ (w : List ℤ). GoesOnWhere (Obeys (linear_system U) (negated w)) n (unless_zero (negated w)) mid new) f
@@ -39,21 +39,21 @@ graver_at_zero s x n v old mid new r e h f one two =
     elim second [
       | inl k ↦
           let w = full_vector U (pos 0) (negated x) in
-          let next : GoesOn n (unless_zero w) mid new = subst (λ (z : List ℤ). GoesOn n (unless_zero z) mid new) (sym (full_negated U x (no_x0 s e))) k.1 in
+          let next : WalksOn n (unless_zero w) mid new = subst (λ (z : List ℤ). WalksOn n (unless_zero z) mid new) (sym (full_negated U x (no_x0 s e))) k.1 in
           (unless_zero u ++ unless_zero w, inl (both.0 k.0, refl), goes_append n (unless_zero u) (unless_zero w) old mid new first next)
       | inr k ↦ (
         unless_zero u,
         inr (λ t. k.0 (both.1 t), refl),
-        subst (λ (us : List (List ℤ)). GoesOn n us old new) (append-nil (unless_zero u)) (goes_append n (unless_zero u) [] old mid new first k.1),
+        subst (λ (us : List (List ℤ)). WalksOn n us old new) (append-nil (unless_zero u)) (goes_append n (unless_zero u) [] old mid new first k.1),
       )
     ]
 
 pub graver_row : (s : Shaped) (c : ℤ) (x : List ℤ) (n k : ℕ) (v w : List ℤ) (old mid new : Walk) → IsRead s → s.system.tool ≡ Graver → IsUserSolution (user_of s) c x → k ≡ n →
     v ≡ full_vector (user_of s) c x → w ≡ full_vector (user_of s) c x →
-    GoesOn k (unless_zero v) old mid → GoesOnWhere (Obeys s.system.equations (negated w)) k (unless_zero (negated w)) mid new → GoesOverRow n s.system.tool (user_of s) c x old new
+    WalksOn k (unless_zero v) old mid → GoesOnWhere (Obeys s.system.equations (negated w)) k (unless_zero (negated w)) mid new → GoesOverRow n s.system.tool (user_of s) c x old new
 graver_row s c x n k v w old mid new r e h l f g one two =
     let z : c ≡ pos 0 = zero_times s c x e h in
-    let one' : GoesOn n (unless_zero v) old mid = subst (λ (m : ℕ). GoesOn m (unless_zero v) old mid) l one in
+    let one' : WalksOn n (unless_zero v) old mid = subst (λ (m : ℕ). WalksOn m (unless_zero v) old mid) l one in
     let same : w ≡ v = g ∙ sym f in
     let two' : GoesOnWhere (Obeys s.system.equations (negated v)) n (unless_zero (negated v)) mid new =
     subst₂ (λ (m : ℕ) (y : List ℤ). GoesOnWhere (Obeys s.system.equations (negated y)) m (unless_zero (negated y)) mid new) l same two in
@@ -77,7 +77,7 @@ rows_more n tool U c rows i x old mid new l e h k =
     (h.0 ++ k.0, of_rows_more tool U c rows i h.0 k.0 l h.1 (subst (λ (y : List ℤ). AreOfRow tool U c y k.0) e k.1), goes_append n h.0 k.0 old mid new h.2 k.2)
 
 -- ---- the files
-pub walked_of : (s : Shaped) (sets : Sets) (start mid new : Walk) → IsStart (full_vector (user_of s) (times_of s.system.tool) (point_of sets)) start →
+pub walked_of : (s : Shaped) (sets : Sets) (start mid new : Walk) → IsAllLeft (full_vector (user_of s) (times_of s.system.tool) (point_of sets)) start →
     GoesOverRows s.input.mat.cols s.system.tool (user_of s) (times_of s.system.tool) (rows_in sets.first) start mid →
     GoesOverParts s.input.mat.cols s.system.tool (user_of s) (second_part sets.second) mid new → Walked s sets new
 walked_of s sets start mid new b h k =

@@ -95,7 +95,7 @@ pub record IsWalkOf (p : Plan) (candidates : List (List ℤ)) (terms : List Term
   pub walk : IsWalk candidates (full_point p) terms left
 
 -- the terms add up to the vector, each is below it, and no two are the same
-pub record IsSumOf (terms : List Term) (v : List ℤ) : Type 0 where
+pub record AddUpTo (terms : List Term) (v : List ℤ) : Type 0 where
   pub sum : total (length v) (multiples terms) ≡ v
   pub below : AllByRecursion (λ u. u ⊑ v) (vectors terms)
   pub differ : AreDifferent (vectors terms)
@@ -106,7 +106,7 @@ pub record IsDecomposed (p : Plan) (terms : List Term) : Type 0 where
   pub left : List ℤ
   pub walk : IsWalkOf p candidates terms left
   pub nothing : IsZero left
-  pub whole : IsSumOf terms (full_point p)
+  pub whole : AddUpTo terms (full_point p)
 
 -- the terms are written, and how many they are is told
 pub record IsDone (p : Plan) (t : Traces) (count : ℕ) : Type 0 where

@@ -56,27 +56,27 @@ point_of sets = slice_index_or (rows_in sets.point) 0 []
 
 -- ---- which rows are taken
 -- a solution whose norm is in range, and that of its full vector too
-pub record IsSound (U : UserSystem) (c : ℤ) (x : List ℤ) : Type 0 where
+pub record IsSoundRow (U : UserSystem) (c : ℤ) (x : List ℤ) : Type 0 where
   pub small : norm x ≤ largest
   pub solution : IsUserSolution U c x
   pub full : norm (full_vector U c x) ≤ largest
 
 -- what is wrong with a row
-abbrev pub HasFault : UserSystem → ℤ → List ℤ → RowFault → Type 0
-HasFault U c x Range =
+abbrev pub HasFaultInRow : UserSystem → ℤ → List ℤ → RowFault → Type 0
+HasFaultInRow U c x Range =
     (largest < norm x) ⊎ (IsUserSolution U c x × (largest < norm (full_vector U c x)))
-HasFault U c x NotSolution = (norm x ≤ largest) × (IsUserSolution U c x → ⊥)
+HasFaultInRow U c x NotSolution = (norm x ≤ largest) × (IsUserSolution U c x → ⊥)
 
 -- row i, counted from 1, is the first that is not taken, and this is wrong with it
 pub record IsFirstUnsound (U : UserSystem) (c : ℤ) (rows : List (List ℤ)) (i : ℕ) (fault : RowFault)
     : Type 0 where
   pub some : 1 ≤ i
   pub there : i ≤ length rows
-  pub before : AllByRecursion (IsSound U c) (take (i - 1) rows)
-  pub wrong : HasFault U c (slice_index_or rows (i - 1) []) fault
+  pub before : AllByRecursion (IsSoundRow U c) (take (i - 1) rows)
+  pub wrong : HasFaultInRow U c (slice_index_or rows (i - 1) []) fault
 
 abbrev pub AreSound : UserSystem → Part → Type 0
-AreSound U p = AllByRecursion (IsSound U p.times) p.rows
+AreSound U p = AllByRecursion (IsSoundRow U p.times) p.rows
 
 -- in the first of the files that has one
 abbrev pub IsFirstFault : UserSystem → List Part → DecFile → ℕ → RowFault → Type 0

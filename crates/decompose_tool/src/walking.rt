@@ -8,8 +8,8 @@ ghost use Rattle.lift_core.specs.ToolSystems.{width};
 ghost use Rattle.system_shape.specs.Problem.{full_vector};
 ghost use Rattle.system_files.specs.Kernel.{rows_in};
 ghost use Rattle.decompose_tool.specs.Walks.{times, IsMost};
-ghost use Rattle.decompose_tool.specs.Rows.{is_zero, unless_zero, second_part, all_parts, times_of, IsSound, AreSound};
-ghost use Rattle.decompose_tool.specs.Inside.Steps.{user_of, IsRead, IsTimes, AreInShape, Obeys, IsOpen, IsStart, Walked, GoesOn, GoesOnWhere, GoesOverRow, GoesOverRows, GoesOverParts};
+ghost use Rattle.decompose_tool.specs.Rows.{is_zero, unless_zero, second_part, all_parts, times_of, IsSoundRow, AreSound};
+ghost use Rattle.decompose_tool.specs.Inside.Steps.{user_of, IsRead, IsTimes, AreInShape, Obeys, HasRest, IsAllLeft, Walked, WalksOn, GoesOnWhere, GoesOverRow, GoesOverRows, GoesOverParts};
 
 use crate::checking::{fill, times};
 use crate::reading::Sets;
@@ -113,12 +113,12 @@ fn push_term(cells: &mut Vec<i64>, c: u64, n: usize, u: &[i64]) -> Result<(), Al
 
 // Takes a candidate as often as it fits.
 fn take(walk: &mut Walk, n: usize, u: &[i64]) -> Result<(), AllocError>
-    requires state { IsOpen (length u.now) walk.old }
+    requires state { HasRest (length u.now) walk.old }
     requires columns { n ≤ length u.now }
     requires range { AllByRecursion InRange u.now }
     requires room { walk.old.terms < 4294967295 }
-    ensures goes { IfOk result (λ _. GoesOn n (unless_zero u.now) walk.old walk.new) }
-    ensures state { IfOk result (λ _. IsOpen (length u.now) walk.new) }
+    ensures goes { IfOk result (λ _. WalksOn n (unless_zero u.now) walk.old walk.new) }
+    ensures state { IfOk result (λ _. HasRest (length u.now) walk.new) }
     ensures few { IfOk result (λ _. walk.new.terms ≤ walk.old.terms + 1) }
 {
     if is_zero(u) {
@@ -159,13 +159,13 @@ fn take_negative(
     walk: &mut Walk,
 ) -> Result<(), AllocError>
     requires width { length full.old ≡ width system.now.equations }
-    requires state { IsOpen (length full.old) walk.old }
+    requires state { HasRest (length full.old) walk.old }
     requires columns { n ≤ length full.old }
     requires range { AllByRecursion InRange full.old }
     requires room { walk.old.terms < 4294967295 }
     ensures goes { IfOk result (λ _. GoesOnWhere (Obeys system.now.equations (negated full.old)) n
         (unless_zero (negated full.old)) walk.old walk.new) }
-    ensures state { IfOk result (λ _. IsOpen (length full.old) walk.new) }
+    ensures state { IfOk result (λ _. HasRest (length full.old) walk.new) }
     ensures few { IfOk result (λ _. walk.new.terms ≤ walk.old.terms + 1) }
 {
     negate(full);
@@ -187,12 +187,12 @@ fn take_row(
     requires read { IsRead shaped.now }
     requires times { IsTimes times }
     requires width { length x.now ≡ shaped.now.input.mat.cols }
-    requires sound { IsSound (user_of shaped.now) times x.now }
-    requires state { IsOpen (width shaped.now.system.equations) walk.old }
+    requires sound { IsSoundRow (user_of shaped.now) times x.now }
+    requires state { HasRest (width shaped.now.system.equations) walk.old }
     requires room { walk.old.terms < 4294967294 }
     ensures goes { IfOk result (λ _. GoesOverRow shaped.now.input.mat.cols shaped.now.system.tool
         (user_of shaped.now) times x.now walk.old walk.new) }
-    ensures state { IfOk result (λ _. IsOpen (width shaped.now.system.equations) walk.new) }
+    ensures state { IfOk result (λ _. HasRest (width shaped.now.system.equations) walk.new) }
     ensures few { IfOk result (λ _. walk.new.terms ≤ walk.old.terms + 2) }
 {
     // Each row was checked, so its full vector is in range.
@@ -219,13 +219,13 @@ fn take_rows(
     requires times { IsTimes times }
     requires width { grid.now.cols ≡ shaped.now.input.mat.cols }
     requires few { grid.now.rows ≤ 2097152 }
-    requires sound { AllByRecursion (IsSound (user_of shaped.now) times) (rows_in grid.now) }
-    requires state { IsOpen (width shaped.now.system.equations) walk.old }
+    requires sound { AllByRecursion (IsSoundRow (user_of shaped.now) times) (rows_in grid.now) }
+    requires state { HasRest (width shaped.now.system.equations) walk.old }
     requires room { walk.old.terms ≤ 4194304 }
     ensures goes { IfOk result
         (λ _. GoesOverRows shaped.now.input.mat.cols shaped.now.system.tool (user_of shaped.now)
         times (rows_in grid.now) walk.old walk.new) }
-    ensures state { IfOk result (λ _. IsOpen (width shaped.now.system.equations) walk.new) }
+    ensures state { IfOk result (λ _. HasRest (width shaped.now.system.equations) walk.new) }
     ensures few { IfOk result (λ _. walk.new.terms ≤ walk.old.terms + 4194304) }
 {
     let mut full = Vec::new(alloc);
@@ -246,12 +246,12 @@ fn take_second(
     requires width { IfSome second.now (λ grid. grid.cols ≡ shaped.now.input.mat.cols) }
     requires few { IfSome second.now (λ grid. grid.rows ≤ 2097152) }
     requires sound { AllByRecursion (AreSound (user_of shaped.now)) (second_part second.now) }
-    requires state { IsOpen (width shaped.now.system.equations) walk.old }
+    requires state { HasRest (width shaped.now.system.equations) walk.old }
     requires room { walk.old.terms ≤ 4194304 }
     ensures goes { IfOk result
         (λ _. GoesOverParts shaped.now.input.mat.cols shaped.now.system.tool (user_of shaped.now)
         (second_part second.now) walk.old walk.new) }
-    ensures state { IfOk result (λ _. IsOpen (width shaped.now.system.equations) walk.new) }
+    ensures state { IfOk result (λ _. HasRest (width shaped.now.system.equations) walk.new) }
 {
     match second {
         Some(grid) => take_rows(alloc, shaped, 0, grid, walk),
@@ -264,12 +264,12 @@ fn start(alloc: Global, shaped: &Shaped, point: &Grid) -> Result<Walk, AllocErro
     requires read { IsRead shaped.now }
     requires width { point.now.cols ≡ shaped.now.input.mat.cols }
     requires row { point.now.rows ≡ 1 }
-    requires sound { AllByRecursion (IsSound (user_of shaped.now) (times_of shaped.now.system.tool))
+    requires sound { AllByRecursion (IsSoundRow (user_of shaped.now) (times_of shaped.now.system.tool))
         (rows_in point.now) }
-    ensures start { IfOk result (IsStart
+    ensures start { IfOk result (IsAllLeft
         (full_vector (user_of shaped.now) (times_of shaped.now.system.tool)
         (slice_index_or (rows_in point.now) 0 []))) }
-    ensures state { IfOk result (IsOpen (width shaped.now.system.equations)) }
+    ensures state { IfOk result (HasRest (width shaped.now.system.equations)) }
 {
     let mut rest = Vec::new(alloc);
     // The row was checked, so its full vector is in range.

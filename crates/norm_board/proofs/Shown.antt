@@ -13,7 +13,7 @@ use Rattle.lift_core.specs.PureMachine.{CoreState}
 use Rattle.lift_core.proofs.Times.{times-append}
 use Rattle.norm_board.specs.declared.rule.Plan.{Plan}
 use Rattle.norm_board.specs.declared.rule.View.{View}
-use Rattle.norm_board.specs.Rule.{S, kept_of, gained, finished, shrunk, single, joined, taking, missing, giving, past, starting}
+use Rattle.norm_board.specs.Rule.{S, kept_of, gained, finished, shrunk, single, one_pass, taking, missing, giving, past, starting}
 use Rattle.norm_board.specs.Inside.Plays.{spent_view}
 use Rattle.norm_board.specs.Shows.{held_by, Shows, Showing, StartShows, DrawsShow, LateDrawsShow, TakesShow, GivesShow, GivesBackShow, SplitsShow, JoinsShow}
 use Rattle.norm_board.proofs.Lists.{total-set, total-snoc}
@@ -403,7 +403,7 @@ joins_show p s c id v other w k apart there =
     let sh = k.shows in
     let at = k.there in
     let ne : id ≢ other = λ e. apart (sym e) in
-    let both : View = joined v w in
+    let both : View = one_pass v w in
     let vs : List View = set s.views id both in
     let owner : List ℕ = map (redirected id other ne) sh.owner in
     let there' : get_elem? vs other ≡ some w = set_else s.views id other both apart ∙ there in

@@ -10,7 +10,7 @@ use Rattle.norm_board.specs.declared.rule.Plan.{Plan}
 use Rattle.norm_board.specs.declared.rule.View.{View}
 use mathlib.Core.Option as maybe
 use Rattle.lift_core.specs.Times.{one_if, times, total_of, once_below, AllUnder}
-use Rattle.norm_board.specs.Rule.{S, weight_of, open_weight, holding_of, drawn_of, kept_of, HoldsOfPass, Turned, Ruled, gained, finished, shrunk, single, joined}
+use Rattle.norm_board.specs.Rule.{S, weight_of, open_weight, holding_of, drawn_of, kept_of, HoldsOfPass, Turned, Ruled, gained, finished, shrunk, single, one_pass}
 use Rattle.norm_board.specs.Inside.Plays.{spent_view, drew, looked}
 use Rattle.lift_core.proofs.Times.{times-append, times_same, times_other, once_yes, once_no}
 use Rattle.norm_board.proofs.Lists.{total-set, total-snoc, total_holds, total_le}
@@ -199,29 +199,29 @@ module _ (p : Plan) where
   either_done true c h = inl refl
   either_done false c h = inr h
 
-  pub joins : (id : ℕ) (v : View) (other : ℕ) (w : View) → 0 < v.weight → 0 < w.weight → w.holding ≡ false → Joins (Ruled p) id v other w (joined v w) spent_view
+  pub joins : (id : ℕ) (v : View) (other : ℕ) (w : View) → 0 < v.weight → 0 < w.weight → w.holding ≡ false → Joins (Ruled p) id v other w (one_pass v w) spent_view
   joins id v other w live lives free s r at ne at' =
       let n : ℕ = get_or s.words 0 0 in
-      let vs : List View = set s.views id (joined v w) in
+      let vs : List View = set s.views id (one_pass v w) in
       let fit = r.each id v at in
-      let there : get_elem? s.views other ≡ some w = sym (set_else s.views id other (joined v w) ne) ∙ at' in
+      let there : get_elem? s.views other ≡ some w = sym (set_else s.views id other (one_pass v w) ne) ∙ at' in
       let fit' = r.each other w there in
-      let ws = total-set weight_of s.views id v (joined v w) at in
+      let ws = total-set weight_of s.views id v (one_pass v w) at in
       let wn = total-set weight_of vs other w spent_view at' in
-      let os = total-set open_weight s.views id v (joined v w) at in
+      let os = total-set open_weight s.views id v (one_pass v w) at in
       let on = total-set open_weight vs other w spent_view at' in
-      let o : open_weight (joined v w) ≤ open_weight v + open_weight w = join_open v.done w.done v.weight w.weight in
+      let o : open_weight (one_pass v w) ≤ open_weight v + open_weight w = join_open v.done w.done v.weight w.weight in
       let sum = r.weights in
       let room = r.room in
       record {
         wide = r.wide;
         fits = r.fits;
-        once = λ x. let a = total-set (drawn_of x) s.views id v (joined v w) at in let b = total-set (drawn_of x) vs other w spent_view at' in
+        once = λ x. let a = total-set (drawn_of x) s.views id v (one_pass v w) at in let b = total-set (drawn_of x) vs other w spent_view at' in
             let c = times-append x v.drawn w.drawn in let d = r.once x in omega arith;
         weights = omega arith;
         room = omega arith;
         each = each_set n n other vs spent_view (omega arith)
-            (each_set n n id s.views (joined v w) (omega arith) r.each
+            (each_set n n id s.views (one_pass v w) (omega arith) r.each
             record {
               kept = λ x. let a = fit.kept x in let b = fit'.kept x in let c = times-append x v.drawn w.drawn in let d = times-append x v.kept w.kept in omega arith;
               spent = λ z. absurd (omega arith);
@@ -230,16 +230,16 @@ module _ (p : Plan) where
             })
             record { kept = λ x. omega arith; spent = λ z. record { done = refl; holding = refl; found = refl; drawn = refl; kept = refl; missed = refl }; late = λ l d. absurd (omega arith); plan = λ l. absurd (omega arith) };
         turn = moved_turn (get_or s.words 1 0) s.homes s.views (set vs other spent_view) r.turn
-            (let a = total-set holding_of s.views id v (joined v w) at in let b = total-set holding_of vs other w spent_view at' in
+            (let a = total-set holding_of s.views id v (one_pass v w) at in let b = total-set holding_of vs other w spent_view at' in
             let c : holding_of w ≡ 0 = ap one_if free in omega arith)
-            (λ x. let a = total-set (kept_of x) s.views id v (joined v w) at in let b = total-set (kept_of x) vs other w spent_view at' in
+            (λ x. let a = total-set (kept_of x) s.views id v (one_pass v w) at in let b = total-set (kept_of x) vs other w spent_view at' in
             let c = times-append x v.kept w.kept in omega arith)
             (λ i u e hold. ⊎_elim
             (λ h. absurd (true_false (sym hold ∙ sym (ap (λ (z : View). z.holding) h.1))))
             (λ h. ⊎_elim
             (λ k. (id, v, at, ap (λ (z : View). z.holding) k.1 ∙ hold, sym (ap (λ (z : View). z.found) k.1)))
             (λ k. (i, u, k.1, hold, refl))
-            (at_set s.views id i (joined v w) u h.1))
+            (at_set s.views id i (one_pass v w) u h.1))
             (at_set vs other i spent_view u e));
       }
 

@@ -131,8 +131,8 @@ single v = record {
 }
 
 -- two passes are one
-abbrev pub joined : View → View → View
-joined v w = record {
+abbrev pub one_pass : View → View → View
+one_pass v w = record {
   weight = v.weight + w.weight;
   done = v.done || w.done;
   holding = v.holding;

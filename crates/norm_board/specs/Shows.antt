@@ -9,7 +9,7 @@ use Rattle.lift_core.specs.PureMachine.{CoreState, core_start, MayCome, after_dr
 use Rattle.lift_core.specs.declared.machine.Event.{Event}
 use Rattle.lift_core.specs.declared.machine.Event.TheVariants.{Draw, Put, Close}
 use Rattle.norm_board.specs.Books.{BookValue}
-use Rattle.norm_board.specs.Rule.{S, kept_of, starting, gained, finished, shrunk, single, joined, taking, missing, giving, past, MayGive, Ruled}
+use Rattle.norm_board.specs.Rule.{S, kept_of, starting, gained, finished, shrunk, single, one_pass, taking, missing, giving, past, MayGive, Ruled}
 use Rattle.norm_board.specs.Inside.Plays.{spent_view}
 use Rattle.norm_board.specs.declared.rule.Plan.{Plan}
 use Rattle.norm_board.specs.declared.rule.View.{View}
@@ -119,7 +119,7 @@ JoinsShow =
     → Shows p (record {
       words = s.words;
       homes = s.homes;
-      views = slice_set (slice_set s.views id (joined v w)) other spent_view;
+      views = slice_set (slice_set s.views id (one_pass v w)) other spent_view;
     }) c
 
 -- ---- the end

@@ -1,7 +1,7 @@
 //! What each step on the table tells, and how passes are cut and joined.
 
 ghost use Rattle.norm_board.specs.Inside.Plays.{drew, looked, took, gave, spent_view};
-ghost use Rattle.norm_board.specs.Rule.{shrunk, single, joined};
+ghost use Rattle.norm_board.specs.Rule.{shrunk, single, one_pass};
 
 use crate::book::Book;
 use crate::rule::View;
@@ -48,7 +48,7 @@ impl Split<View> for Cut {
 pub(crate) struct Glue;
 
 impl Join<View> for Glue {
-    ghost both = { joined };
+    ghost both = { one_pass };
 
     ghost spent = { spent_view };
 }

@@ -114,29 +114,29 @@ overflow_words stage (Norm d) =
     codes "overflow at equation " ∷ decimal stage ∷ codes ": norm " ∷ decimal d ∷ []
 
 -- what a line says behind the tool's name
-abbrev pub words_of : Tool → List ℕ → End → List (List ℕ)
-words_of tool project (Done solutions pairs norms) = []
-words_of tool project Usage = usage_of tool
-words_of tool project (Missing part) = about project part (codes "no such file" ∷ [])
-words_of tool project (TooLong part) = about project part (codes "longer than 4194304 bytes" ∷ [])
-words_of tool project (Text part fault) = about project part (text_fault fault)
-words_of tool project (Refused part) = about project part (codes "not supported" ∷ [])
-words_of tool project (Shape fault) = about project (shape_part fault) (shape_fault_words fault)
-words_of tool project (BadRestart first second) = both_causes project first second
-words_of tool project (Overflow stage place) = overflow_words stage place
-words_of tool project (Pairs stage norm needed) =
+abbrev pub line_words : Tool → List ℕ → End → List (List ℕ)
+line_words tool project (Done solutions pairs norms) = []
+line_words tool project Usage = usage_of tool
+line_words tool project (Missing part) = about project part (codes "no such file" ∷ [])
+line_words tool project (TooLong part) = about project part (codes "longer than 4194304 bytes" ∷ [])
+line_words tool project (Text part fault) = about project part (text_fault fault)
+line_words tool project (Refused part) = about project part (codes "not supported" ∷ [])
+line_words tool project (Shape fault) = about project (shape_part fault) (shape_fault_words fault)
+line_words tool project (BadRestart first second) = both_causes project first second
+line_words tool project (Overflow stage place) = overflow_words stage place
+line_words tool project (Pairs stage norm needed) =
     codes "pair budget spent at equation " ∷ decimal stage
     ∷ codes ", norm " ∷ decimal norm ∷ codes ": " ∷ decimal needed ∷ codes " pairs needed" ∷ []
-words_of tool project (Rows stage norm count) =
+line_words tool project (Rows stage norm count) =
     codes "row budget spent at equation " ∷ decimal stage
     ∷ codes ", norm " ∷ decimal norm ∷ codes ": " ∷ decimal count ∷ codes " rows needed" ∷ []
-words_of tool project (Outside part) = about project part (codes "device failure" ∷ [])
-words_of tool project Memory = codes "out of memory" ∷ []
+line_words tool project (Outside part) = about project part (codes "device failure" ∷ [])
+line_words tool project Memory = codes "out of memory" ∷ []
 
 -- the line: the tool's name, what it says, and LF
 abbrev pub message_of : Tool → List ℕ → End → List ℕ
 message_of tool project end =
-    text_of_parts (tool_name tool ∷ codes ": " ∷ words_of tool project end ++ codes "\n" ∷ [])
+    text_of_parts (tool_name tool ∷ codes ": " ∷ line_words tool project end ++ codes "\n" ∷ [])
 
 -- at Done nothing is put on standard error; at each other end its line, or a prefix of it where that was refused
 abbrev pub Speaks : Tool → List ℕ → End → Option (List ℕ) → Option (List ℕ) → Type 0

@@ -7,7 +7,7 @@ ghost use Rattle.std.specs.Fmt.{signed_decimal};
 ghost use Rattle.std.specs.Io.KnownBytes.{append_known};
 ghost use Rattle.outside.specs.Causes.{HasCause};
 ghost use Rattle.outside.specs.Pieces.{MayPut, text_of_parts};
-ghost use Rattle.tool_top.specs.Messages.{IsDone, about, bad_sign, entries, message_of, overflow_words, part_name, shape_fault_words, shape_part, text_fault, tool_name, usage_of, words_of, wrong_shape};
+ghost use Rattle.tool_top.specs.Messages.{IsDone, about, bad_sign, entries, message_of, overflow_words, part_name, shape_fault_words, shape_part, text_fault, tool_name, usage_of, line_words, wrong_shape};
 
 use crate::causes::put_causes;
 use crate::names::ending;
@@ -458,9 +458,9 @@ fn put_rows<E: Sink>(err: &mut E, stage: u32, norm: u64, count: u64) -> Result<(
 fn put_words<E: Sink>(err: &mut E, tool: Tool, project: &str, end: &End) -> Result<(), PutEnd>
     ensures done { OnOk result
         (E.held err.new
-        ≡ append_known (E.held err.old) (text_of_parts (words_of tool project.now end.now))) }
+        ≡ append_known (E.held err.old) (text_of_parts (line_words tool project.now end.now))) }
     ensures refused { OnErr result
-        (MayPut (text_of_parts (words_of tool project.now end.now)) (E.held err.old)
+        (MayPut (text_of_parts (line_words tool project.now end.now)) (E.held err.old)
         (E.held err.new)) }
     ensures cause { HasCause (E.faults err.old) (E.faults err.new) result }
 {
@@ -488,9 +488,9 @@ fn put_words<E: Sink>(err: &mut E, tool: Tool, project: &str, end: &End) -> Resu
 // Puts what a line says, and ends it.
 fn put_line<E: Sink>(err: &mut E, tool: Tool, project: &str, end: &End) -> Result<(), PutEnd>
     ensures done { OnOk result (E.held err.new ≡ append_known (E.held err.old)
-        (text_of_parts (words_of tool project.now end.now ++ codes "\n" ∷ []))) }
+        (text_of_parts (line_words tool project.now end.now ++ codes "\n" ∷ []))) }
     ensures refused { OnErr result (MayPut
-        (text_of_parts (words_of tool project.now end.now ++ codes "\n" ∷ []))
+        (text_of_parts (line_words tool project.now end.now ++ codes "\n" ∷ []))
         (E.held err.old) (E.held err.new)) }
     ensures cause { HasCause (E.faults err.old) (E.faults err.new) result }
 {

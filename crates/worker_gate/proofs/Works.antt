@@ -5,7 +5,7 @@ use Rattle.norm_board.specs.declared.board.puts.Put.{Put}
 use Rattle.norm_board.specs.declared.board.puts.Put.TheVariants.{Kept, Held, Memory}
 use Rattle.norm_board.specs.Books.{BookValue}
 use Rattle.lift_core.specs.Times.{times, once_below}
-use Rattle.norm_board.specs.Rule.{gained, joined}
+use Rattle.norm_board.specs.Rule.{gained, one_pass}
 use Rattle.norm_board.specs.Puts.{Open, HasOpen, PutDone}
 use Rattle.worker_gate.specs.Work.{KeepsBlocks}
 use Rattle.worker_gate.specs.Inside.Steps.{LeavesPass}
@@ -88,7 +88,7 @@ has_stepped v v' a b c n h e f k = rw (e, k, f) (has_drawn v a n h)
 pub last_drawn : (n : ℕ) (xs ys : List ℕ) → ys ≡ xs ++ n ∷ [] → 0 < times (n + 1 - 1) ys
 last_drawn n xs ys e = let k : n ≡ n + 1 - 1 = omega arith in subst (λ (j : ℕ). 0 < times j ys) k (rw e (has_last xs n))
 
-module _ (v w u : View) (a b : List ℕ) (h : HasOpen v a) (k : HasOpen w b) (e : u ≡ joined v w) where
+module _ (v w u : View) (a b : List ℕ) (h : HasOpen v a) (k : HasOpen w b) (e : u ≡ one_pass v w) where
   -- what two passes of one board have open is apart
   pub merge_apart : (n : ℕ) → ((x : ℕ) → times x u.drawn ≤ once_below x n) → (x : ℕ) → times x a + times x b ≤ 1
   merge_apart n t x = let d = ap (λ (z : View). times x z.drawn) e in let f = times-append x v.drawn w.drawn in let m = h x in let o = k x in let l = t x in let z = once_le x n in omega arith

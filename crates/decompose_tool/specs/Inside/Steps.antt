@@ -15,7 +15,7 @@ use Rattle.decompose_tool.specs.declared.ends.Stop.TheVariants.{Usage, Input as 
 use Rattle.decompose_tool.specs.declared.reading.Sets.{Sets}
 use Rattle.decompose_tool.specs.declared.rows.Standing.{Standing}
 use Rattle.decompose_tool.specs.declared.walking.Walk.{Walk}
-use Rattle.decompose_tool.specs.Rows.{times_of, set_parts, point_of, Part, IsSound, HasFault, IsFirstUnsound, AreSound, IsFirstFault, AreOfRow, AreOfRows, AreCandidates}
+use Rattle.decompose_tool.specs.Rows.{times_of, set_parts, point_of, Part, IsSoundRow, HasFaultInRow, IsFirstUnsound, AreSound, IsFirstFault, AreOfRow, AreOfRows, AreCandidates}
 use Rattle.decompose_tool.specs.Sets.{Plan}
 use Rattle.decompose_tool.specs.Ends.{rows_of_terms}
 use Rattle.decompose_tool.specs.Walks.{Term, IsWalk}
@@ -73,8 +73,8 @@ Fills full buffer false = largest < norm full
 
 -- what a row's check answers
 abbrev pub Checks : UserSystem → ℤ → List ℤ → Option RowFault → Type 0
-Checks U c x None = IsSound U c x
-Checks U c x (Some fault) = HasFault U c x fault
+Checks U c x None = IsSoundRow U c x
+Checks U c x (Some fault) = HasFaultInRow U c x fault
 
 -- what the check of a file answers
 abbrev pub ChecksPart : UserSystem → Part → Result (Unit {0}) Stop → Type 0
@@ -107,18 +107,18 @@ abbrev pub Obeys : LinearSystem → List ℤ → Type 0
 Obeys S v = ObeysSigns S v × ObeysCaps S v
 
 -- what is left has w entries, all in range
-pub record IsOpen (w : ℕ) (walk : Walk) : Type 0 where
+pub record HasRest (w : ℕ) (walk : Walk) : Type 0 where
   pub width : length walk.rest.items ≡ w
   pub range : AllByRecursion InRange walk.rest.items
 
 -- all of v is left
-pub record IsStart (v : List ℤ) (walk : Walk) : Type 0 where
+pub record IsAllLeft (v : List ℤ) (walk : Walk) : Type 0 where
   pub rest : walk.rest.items ≡ v
   pub terms : walk.terms ≡ 0
   pub cells : walk.cells.items ≡ []
 
 -- the walk went on over these candidates
-pub record GoesOn (n : ℕ) (us : List (List ℤ)) (old new : Walk) : Type 0 where
+pub record WalksOn (n : ℕ) (us : List (List ℤ)) (old new : Walk) : Type 0 where
   pub terms : List Term
   pub walk : IsWalk us old.rest.items terms new.rest.items
   pub rows : AreRows (n + 1) (rows_of_terms n terms)
@@ -127,20 +127,20 @@ pub record GoesOn (n : ℕ) (us : List (List ℤ)) (old new : Walk) : Type 0 whe
 
 -- it went on over them where P holds
 abbrev pub GoesOnWhere : Type 0 → ℕ → List (List ℤ) → Walk → Walk → Type 0
-GoesOnWhere P n us old new = (P × GoesOn n us old new) ⊎ ((P → ⊥) × GoesOn n [] old new)
+GoesOnWhere P n us old new = (P × WalksOn n us old new) ⊎ ((P → ⊥) × WalksOn n [] old new)
 
 -- and over those of a row, of several rows, and of several files
 abbrev pub GoesOverRow : ℕ → Tool → UserSystem → ℤ → List ℤ → Walk → Walk → Type 0
 GoesOverRow n tool U c x old new =
-    (us : List (List ℤ)) × AreOfRow tool U c x us × GoesOn n us old new
+    (us : List (List ℤ)) × AreOfRow tool U c x us × WalksOn n us old new
 
 abbrev pub GoesOverRows : ℕ → Tool → UserSystem → ℤ → List (List ℤ) → Walk → Walk → Type 0
 GoesOverRows n tool U c rows old new =
-    (us : List (List ℤ)) × AreOfRows tool U c rows us × GoesOn n us old new
+    (us : List (List ℤ)) × AreOfRows tool U c rows us × WalksOn n us old new
 
 abbrev pub GoesOverParts : ℕ → Tool → UserSystem → List Part → Walk → Walk → Type 0
 GoesOverParts n tool U parts old new =
-    (us : List (List ℤ)) × AreCandidates tool U parts us × GoesOn n us old new
+    (us : List (List ℤ)) × AreCandidates tool U parts us × WalksOn n us old new
 
 -- the whole walk over the candidates of the set
 pub record Walked (s : Shaped) (sets : Sets) (walk : Walk) : Type 0 where

@@ -3,7 +3,7 @@
 ghost use Rattle.std.specs.Prelude.{◌≡◌, ℕ, ◌<◌, ◌≤◌, false, IfOk, IfSome, IfNone};
 ghost use Rattle.lift_core.specs.Times.{times, once_below, AllUnder};
 ghost use Rattle.norm_board.specs.Blocks.{blocks_of, pair_count, IsBlockOf};
-ghost use Rattle.norm_board.specs.Rule.{starting, gained, finished, shrunk, single, joined};
+ghost use Rattle.norm_board.specs.Rule.{starting, gained, finished, shrunk, single, one_pass};
 ghost use Rattle.norm_board.specs.Seen.{view, Belongs};
 
 use super::Board;
@@ -111,7 +111,7 @@ impl<'s> Board<'s> {
         requires others { Belongs self.now other }
         requires free { (view other).holding ≡ false }
         ensures same { Belongs self.now pass.new }
-        ensures view { view pass.new ≡ joined (view pass.old) (view other) }
+        ensures view { view pass.new ≡ one_pass (view pass.old) (view other) }
         ensures apart { (x : ℕ)
             → times x (view pass.new).drawn ≤ once_below x self.now.plan.blocks }
     {

@@ -6,7 +6,7 @@ use Rattle.int_vector.specs.Range.{InRange}
 use Rattle.lift_core.proofs.Cells.{length-cut_rows}
 use Rattle.system_shape.specs.Problem.{full_vector}
 use Rattle.system_files.specs.Kernel.{rows_in}
-use Rattle.decompose_tool.specs.Rows.{times_of, IsSound}
+use Rattle.decompose_tool.specs.Rows.{times_of, IsSoundRow}
 use Rattle.decompose_tool.specs.Inside.Steps.{user_of, Fills}
 use Rattle.decompose_tool.proofs.Filling.{each_at, norm_range}
 use Rattle.decompose_tool.proofs.FullVectors.{filled, full_width}
@@ -18,7 +18,7 @@ returns-clause-state c =
     let point = c.args.point.now in
     let x = get_or (rows_in point) 0 [] in
     let k = times_of s.system.tool in
-    let sound : IsSound (user_of s) k x = each_at (IsSound (user_of s) k) (rows_in point) 0 [] c.requires.sound (omega (arith, length-cut_rows point.rows point.cols point.cells, c.requires.row)) in
+    let sound : IsSoundRow (user_of s) k x = each_at (IsSoundRow (user_of s) k) (rows_in point) 0 [] c.requires.sound (omega (arith, length-cut_rows point.rows point.cols point.cells, c.requires.row)) in
     let same : c.times.result ≡ k = c.times.ensures.value ∙ ap times_of c.tool.ensures in
     let ft : SFits w64 c.times.result = search rules in
     let fills : Fills (full_vector (user_of s) k x) c.fill.new.full.items c.in_ok-fill.field-0 =

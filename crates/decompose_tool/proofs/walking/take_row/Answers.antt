@@ -8,7 +8,7 @@ use Rattle.int_vector.specs.Vectors.{negated}
 use Rattle.lift_core.specs.ToolSystems.{width}
 use Rattle.system_shape.specs.Problem.{full_vector}
 use Rattle.decompose_tool.specs.Rows.{unless_zero}
-use Rattle.decompose_tool.specs.Inside.Steps.{user_of, Obeys, IsOpen, GoesOnWhere}
+use Rattle.decompose_tool.specs.Inside.Steps.{user_of, Obeys, HasRest, GoesOnWhere}
 use Rattle.decompose_tool.proofs.Filling.{norm_range}
 use Rattle.decompose_tool.proofs.FullVectors.{filled, full_width}
 use Rattle.decompose_tool.proofs.RowWalks.{plain_row, graver_row}
@@ -20,7 +20,7 @@ take-requires-clause-state c =
     let ft : SFits w64 c.args.times = c.ranges.times in
     let full = full_vector (user_of s) c.args.times c.args.x.now in
     let is : c.fill.new.full.items ≡ full = filled full c.fill.new.full.items c.in_ok-fill.field-0 c.requires.sound.full (simp to_z-of_z at c.in_ok-fill.ensures) in
-    subst (λ (k : ℕ). IsOpen k c.args.walk.now) (sym (ap length (c.deref.ensures.value ∙ is) ∙ full_width s c.args.times c.args.x.now c.requires.read c.requires.sound.solution)) c.requires.state
+    subst (λ (k : ℕ). HasRest k c.args.walk.now) (sym (ap length (c.deref.ensures.value ∙ is) ∙ full_width s c.args.times c.args.x.now c.requires.read c.requires.sound.solution)) c.requires.state
 
 pub take-requires-clause-range : goal.take-requires-clause-range
 take-requires-clause-range c =
@@ -66,8 +66,8 @@ returns-in-Graver-clause-state c =
     let full = full_vector (user_of s) c.args.times c.args.x.now in
     let is : c.fill.new.full.items ≡ full = filled full c.fill.new.full.items c.in_ok-fill.field-0 c.requires.sound.full (simp to_z-of_z at c.in_ok-fill.ensures) in
     let wide : length c.deref_mut.result.now ≡ width s.system.equations = ap length (c.deref_mut.ensures.value ∙ is) ∙ full_width s c.args.times c.args.x.now c.requires.read c.requires.sound.solution in
-    IfOk-weaker c.take_negative.result (λ _. IsOpen (length c.deref_mut.result.now) c.take_negative.new.walk) _
-    (λ _ h. subst (λ (k : ℕ). IsOpen k c.take_negative.new.walk) wide h) c.take_negative.ensures.state
+    IfOk-weaker c.take_negative.result (λ _. HasRest (length c.deref_mut.result.now) c.take_negative.new.walk) _
+    (λ _ h. subst (λ (k : ℕ). HasRest k c.take_negative.new.walk) wide h) c.take_negative.ensures.state
 
 pub returns-in-Hilbert : goal.returns-in-Hilbert
 returns-in-Hilbert c =
@@ -80,7 +80,7 @@ returns-in-Hilbert c =
     record {
       goes = plain_row s.system.tool (user_of s) c.args.times x s.input.mat.cols (length x) c.deref.result.now c.args.walk.now c.take.new.walk (inl (sym c.tool.ensures ∙ c.in-Hilbert.is)) c.requires.width
           (c.deref.ensures.value ∙ is) c.in_ok-take.ensures.goes;
-      state = subst (λ (k : ℕ). IsOpen k c.take.new.walk) wide c.in_ok-take.ensures.state;
+      state = subst (λ (k : ℕ). HasRest k c.take.new.walk) wide c.in_ok-take.ensures.state;
       few = omega (arith, c.in_ok-take.ensures.few);
     }
 
@@ -95,6 +95,6 @@ returns-in-Zsolve c =
     record {
       goes = plain_row s.system.tool (user_of s) c.args.times x s.input.mat.cols (length x) c.deref.result.now c.args.walk.now c.take.new.walk (inr (sym c.tool.ensures ∙ c.in-Zsolve.is)) c.requires.width
           (c.deref.ensures.value ∙ is) c.in_ok-take.ensures.goes;
-      state = subst (λ (k : ℕ). IsOpen k c.take.new.walk) wide c.in_ok-take.ensures.state;
+      state = subst (λ (k : ℕ). HasRest k c.take.new.walk) wide c.in_ok-take.ensures.state;
       few = omega (arith, c.in_ok-take.ensures.few);
     }
