@@ -109,7 +109,8 @@ fn run_backed<R: Threads + Sync, F: Folder, G: Gate + Sync>(
     ensures system { IfOk result (KeepsSystem from) }
     ensures rows { IsLiftedDefined from → IfOk result HasAllSolutions }
     ensures leaves { IfSome (F.held folder.old) (λ files.
-        LeavesFrom (turns_from slot (Some interval) plan.entry.first.now plan.entry.second.now) (bounds limits) from
+        LeavesFrom (turns_from slot (Some interval) plan.entry.first.now plan.entry.second.now)
+        (bounds limits) from
         (came_to plan.entry.first.now plan.entry.second.now result) files (F.held folder.new)) }
     ensures cause { HasStoppedCause (F.faults folder.old) (F.faults folder.new) result }
 {
@@ -140,7 +141,8 @@ fn run_from<R: Threads + Sync, F: Folder, G: Gate + Sync>(
     ensures system { IfOk result (KeepsSystem from) }
     ensures rows { IsLiftedDefined from → IfOk result HasAllSolutions }
     ensures leaves { IfSome (F.held folder.old) (λ files.
-        LeavesFrom (turns_from slot plan.entry.interval plan.entry.first.now plan.entry.second.now) (bounds limits) from
+        LeavesFrom (turns_from slot plan.entry.interval plan.entry.first.now plan.entry.second.now)
+        (bounds limits) from
         (came_to plan.entry.first.now plan.entry.second.now result) files (F.held folder.new)) }
     ensures apart { plan.entry.interval ≡ None → folder.new ≡ folder.old }
     ensures cause { HasStoppedCause (F.faults folder.old) (F.faults folder.new) result }
@@ -186,7 +188,8 @@ pub fn run_start<R: Threads + Sync, F: Folder, G: Gate + Sync>(
     // Which backups then stand. Where the run broke off, the file of `next` is that of the backup that would have come then:
     // it alone may be torn, and all other files are as the backups before it left them.
     ensures leaves { IfSome (F.held folder.old) (λ files.
-        LeavesRun (turns_from (first_slot start) plan.entry.interval plan.entry.first.now plan.entry.second.now) (bounds limits) start
+        LeavesRun (turns_from (first_slot start) plan.entry.interval plan.entry.first.now
+        plan.entry.second.now) (bounds limits) start
         (came_to plan.entry.first.now plan.entry.second.now result) files (F.held folder.new)) }
 
     // Without an interval no call of the folder is made.

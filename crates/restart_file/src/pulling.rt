@@ -62,7 +62,8 @@ pub(crate) fn refill<F: Folder>(
     ensures same { F.held folder.new ≡ F.held folder.old }
     ensures left { (text rest : List ℕ) → TellsText (F.held folder.old) name.now text
         → IsTextLeft text window.old rest →
-        OnOk result (IsTextLeft text window.new rest × (window.new.from ≡ window.new.filled → rest ≡ [])) }
+        OnOk result (IsTextLeft text window.new rest
+        × (window.new.from ≡ window.new.filled → rest ≡ [])) }
     ensures cause { HasCause (F.faults folder.old) (F.faults folder.new) result }
 {
     if window.from < window.filled {

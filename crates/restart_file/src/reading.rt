@@ -47,7 +47,8 @@ fn read_line<F: Folder>(
     ensures same { F.held folder.new ≡ F.held folder.old }
     ensures line { (text rest : List ℕ) → TellsText (F.held folder.old) name.now text
         → IsTextLeft text window.old rest →
-        ReadsLine system.now text rest window.new (cursor_of draft.old) (cursor_of draft.new) l result }
+        ReadsLine system.now text rest window.new (cursor_of draft.old)
+        (cursor_of draft.new) l result }
     ensures widths { HasWidths system.now draft.new }
     ensures sound { OnOk result (IsTrueSoFar system.now (cursor_of draft.new)) }
     ensures cause { HasRestartCause (F.faults folder.old) (F.faults folder.new) result }

@@ -41,7 +41,8 @@ fn hash_piece<F: Folder>(
     ensures within { IfOk result (λ n. n ≤ most) }
     ensures hashed { (text : List ℕ) (done : ℕ) → TellsText (F.held folder.old) name.now text
         → IsHashed text window.old hasher.old done →
-        IfOk result (λ n. IsHashed text window.new hasher.new (done + n) × (n ≡ 0 → length text ≤ done ⊎ most ≡ 0)) }
+        IfOk result (λ n. IsHashed text window.new hasher.new (done + n)
+        × (n ≡ 0 → length text ≤ done ⊎ most ≡ 0)) }
     ensures cause { HasCause (F.faults folder.old) (F.faults folder.new) result }
 {
     refill(window, folder, name)?;
@@ -61,7 +62,8 @@ fn digest_of<F: Folder>(
     ensures same { F.held folder.new ≡ F.held folder.old }
     ensures digest { (text : List ℕ) → TellsText (F.held folder.old) name.now text
         → IsTextLeft text window.old text → len ≤ length text →
-        IfOk result (λ digest. (digest ≡ sha256 (take len text)) × IsTextLeft text window.new (drop len text)) }
+        IfOk result (λ digest. (digest ≡ sha256 (take len text))
+        × IsTextLeft text window.new (drop len text)) }
     ensures cause { HasCause (F.faults folder.old) (F.faults folder.new) result }
 {
     let mut hasher = Sha256::new();

@@ -416,10 +416,12 @@ fn put_usage<E: Sink>(err: &mut E, tool: Tool) -> Result<(), PutEnd>
 fn put_pairs<E: Sink>(err: &mut E, stage: u32, norm: u64, needed: u64) -> Result<(), PutEnd>
     ensures done { OnOk result (E.held err.new ≡ append_known (E.held err.old)
         (text_of_parts (codes "pair budget spent at equation " ∷ decimal stage
-        ∷ codes ", norm " ∷ decimal norm ∷ codes ": " ∷ decimal needed ∷ codes " pairs needed" ∷ []))) }
+        ∷ codes ", norm " ∷ decimal norm ∷ codes ": " ∷ decimal needed ∷ codes " pairs needed"
+        ∷ []))) }
     ensures refused { OnErr result (MayPut
         (text_of_parts (codes "pair budget spent at equation " ∷ decimal stage
-        ∷ codes ", norm " ∷ decimal norm ∷ codes ": " ∷ decimal needed ∷ codes " pairs needed" ∷ []))
+        ∷ codes ", norm " ∷ decimal norm ∷ codes ": " ∷ decimal needed ∷ codes " pairs needed"
+        ∷ []))
         (E.held err.old) (E.held err.new)) }
     ensures cause { HasCause (E.faults err.old) (E.faults err.new) result }
 {
@@ -437,7 +439,8 @@ fn put_pairs<E: Sink>(err: &mut E, stage: u32, norm: u64, needed: u64) -> Result
 fn put_rows<E: Sink>(err: &mut E, stage: u32, norm: u64, count: u64) -> Result<(), PutEnd>
     ensures done { OnOk result (E.held err.new ≡ append_known (E.held err.old)
         (text_of_parts (codes "row budget spent at equation " ∷ decimal stage
-        ∷ codes ", norm " ∷ decimal norm ∷ codes ": " ∷ decimal count ∷ codes " rows needed" ∷ []))) }
+        ∷ codes ", norm " ∷ decimal norm ∷ codes ": " ∷ decimal count ∷ codes " rows needed"
+        ∷ []))) }
     ensures refused { OnErr result (MayPut
         (text_of_parts (codes "row budget spent at equation " ∷ decimal stage
         ∷ codes ", norm " ∷ decimal norm ∷ codes ": " ∷ decimal count ∷ codes " rows needed" ∷ []))

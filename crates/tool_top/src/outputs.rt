@@ -53,7 +53,8 @@ fn select_output(
 pub(crate) fn select_outputs(alloc: Global, finish: &Finish) -> Result<Outputs, AllocError>
     requires { finish.now.rows.width ≡ width finish.now.system.equations }
     ensures files { IfOk result (λ o.
-        AreSelectedOf finish.now.system.tool finish.now.system finish.now.rows.rows (outputs_of o)) }
+        AreSelectedOf finish.now.system.tool finish.now.system finish.now.rows.rows
+        (outputs_of o)) }
     ensures few { IfOk result (λ o. vec_len o.list ≤ 2) }
 {
     let mut list = Vec::with_capacity(alloc, 2)?;

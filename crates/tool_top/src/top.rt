@@ -152,7 +152,8 @@ fn run_job<R: Threads + Sync, F: Folder, G: Gate + Sync>(
     ensures rows { IsDefinedStart start → IfOk result HasAllSolutions }
     ensures sound { IfOk result (IsSoundFrom start) }
     ensures leaves { IfSome (F.held folder.old) (λ files.
-        LeavesRun (turns_for job.now start) (limits_of job.now) start (came_for job.now result) files (F.held folder.new)) }
+        LeavesRun (turns_for job.now start) (limits_of job.now) start
+        (came_for job.now result) files (F.held folder.new)) }
     ensures apart { IsSome job.now.tables → folder.new ≡ folder.old }
     ensures cause { HasStoppedCause (F.faults folder.old) (F.faults folder.new) result }
 {
@@ -187,7 +188,8 @@ fn carry_out<R: Threads + Sync, F: Folder, O: Sink, G: Gate + Sync>(
         → StartsAs (record { job = job.now; tool = tool; input = input; stored = stored }) start
         → IfSome (F.held folder.old)
         (λ files. Ends (Ok (record { job = job.now; tool = tool; input = input; stored = stored }))
-        (record { files_before = files; files_after = F.held folder.new; out_before = O.held out.old; out_after = O.held out.new })
+        (record { files_before = files; files_after = F.held folder.new;
+        out_before = O.held out.old; out_after = O.held out.new })
         (end_of result)) }
     ensures apart { IsSome job.now.tables → folder.new ≡ folder.old }
     ensures tells { Tells (Some job.now) (O.held out.old) (O.held out.new) (end_of result) }
@@ -246,7 +248,9 @@ fn write_job<F: Folder>(
 ) -> Result<(), End>
     ensures apart { IsSome job.now.tables → folder.new ≡ folder.old }
     ensures done { OnOk result (F.held folder.new
-        ≡ option_map (written_all (project_of job.now) (to_write job.now.tables (outputs_of outputs.now))) (F.held folder.old)) }
+        ≡ option_map
+        (written_all (project_of job.now) (to_write job.now.tables (outputs_of outputs.now)))
+        (F.held folder.old)) }
     ensures refused { IfErr result
         (CutsTo (project_of job.now) (to_write job.now.tables (outputs_of outputs.now))
         (F.held folder.old) (F.held folder.new)) }
@@ -272,7 +276,8 @@ fn attempt<R: Threads + Sync, F: Folder, O: Sink, G: Gate + Sync>(
 ) -> Result<Totals, End>
     requires { IsWithinLimits job.now }
     ensures ends { IfSome (F.held folder.old) (λ files. Ends (plan_of tool job.now files)
-        (record { files_before = files; files_after = F.held folder.new; out_before = O.held out.old; out_after = O.held out.new })
+        (record { files_before = files; files_after = F.held folder.new;
+        out_before = O.held out.old; out_after = O.held out.new })
         (end_of result)) }
     ensures apart { IsSome job.now.tables → folder.new ≡ folder.old }
     ensures tells { Tells (Some job.now) (O.held out.old) (O.held out.new) (end_of result) }
@@ -312,7 +317,8 @@ fn finish<R: Threads + Sync, F: Folder, O: Sink, E: Sink, G: Gate + Sync>(
     requires { IfOk job IsWithinLimits }
     ensures ends { (asked : Option Job) → Asks asked job
         → IfSome (F.held folder.old) (λ files. Ends (plan_for tool asked files)
-        (record { files_before = files; files_after = F.held folder.new; out_before = O.held out.old; out_after = O.held out.new })
+        (record { files_before = files; files_after = F.held folder.new;
+        out_before = O.held out.old; out_after = O.held out.new })
         result) }
     ensures apart { (asked : Option Job) → Asks asked job → HasTables asked
         → folder.new ≡ folder.old }
@@ -387,7 +393,9 @@ pub fn run_tool<R: Threads + Sync, F: Folder, O: Sink, E: Sink, G: Gate + Sync>(
     // the restart files have their backups, and all other files are as before. (Where a run is resumed, `AreOutputs` says
     // from which files: from each that an earlier run of the system has written.)
     ensures written { IfSome (F.held folder.old) (λ files.
-        OnDone result.end (IsOkAnd (planned tool words.now files) (λ plan. HasWritten plan files (F.held folder.new)))) }
+        OnDone result.end
+        (IsOkAnd (planned tool words.now files)
+        (λ plan. HasWritten plan files (F.held folder.new)))) }
 
     // Where no device failed, the end is the one that the words and the files decide, or memory ran out.
     ensures headline { IfSome (F.held folder.old) (λ files.
@@ -401,7 +409,8 @@ pub fn run_tool<R: Threads + Sync, F: Folder, O: Sink, E: Sink, G: Gate + Sync>(
 
     // What then stands in the folder and on standard output.
     ensures leaves { IfSome (F.held folder.old) (λ files. Leaves (planned tool words.now files)
-        (record { files_before = files; files_after = F.held folder.new; out_before = O.held out.old; out_after = O.held out.new })
+        (record { files_before = files; files_after = F.held folder.new;
+        out_before = O.held out.old; out_after = O.held out.new })
         result.end) }
 
     // With tables, no call of the folder is made.
