@@ -48,7 +48,7 @@ pub record IsWaiting (n : ℕ) (q p : Progress) (lines : List (List ℕ)) : Type
   pub is : p ≡ with_waiting_rows waiting q
   pub written : lines ≡ map line_of waiting
 
-pub record IsListed (v : Version) (n : ℕ) (q p : Progress) (lines : List (List ℕ)) : Type 0 where
+pub record LeavesListed (v : Version) (n : ℕ) (q p : Progress) (lines : List (List ℕ)) : Type 0 where
   pub listed : List (List ℤ)
   pub waiting : List (List ℤ)
   pub count : length listed ≡ n
@@ -66,7 +66,7 @@ IsTail S v UsedLine q p lines =
     × (lines ≡ counts_line (codes "used ") (u ∷ []) ∷ count_part v q zs ws)
 IsTail S v ListedLine q p lines =
     (zs : List (List ℤ)) × (ws : List (List ℤ)) × (p ≡ with_waiting_rows ws (with_listed_rows zs q)) × (lines ≡ count_part v q zs ws)
-IsTail S v (ListedRow left) q p lines = IsListed v (suc (left - 1)) q p lines
+IsTail S v (ListedRow left) q p lines = LeavesListed v (suc (left - 1)) q p lines
 IsTail S v ClassesLine q p lines =
     (ws : List (List ℤ)) × (p ≡ with_waiting_rows ws q) × (lines ≡ counts_line (codes "classes ") (class_counts q.listed) ∷ waiting_part ws)
 IsTail S v WaitingLine q p lines = (ws : List (List ℤ)) × (p ≡ with_waiting_rows ws q) × (lines ≡ waiting_part ws)
@@ -93,7 +93,7 @@ module _ (S : ToolSystem) (v : Version) (q p : Progress) (lines : List (List ℕ
   waiting_left (suc n) t = subst (λ k. IsWaiting k q p lines) (same_count n) t
 
   -- so many listed rows are left
-  listed_left : (u : Version) (n : ℕ) → IsTail S u (listed_due u n) q p lines → IsListed u n q p lines
+  listed_left : (u : Version) (n : ℕ) → IsTail S u (listed_due u n) q p lines → LeavesListed u n q p lines
   listed_left First zero t = record {
     listed = [];
     waiting = t.0;
@@ -108,8 +108,8 @@ module _ (S : ToolSystem) (v : Version) (q p : Progress) (lines : List (List ℕ
     is = t.1 ∙ ap (with_waiting_rows t.0) (sym (none_listed q));
     written = t.2 ∙ ap (λ zs. counts_line (codes "classes ") (class_counts zs) ∷ waiting_part t.0) (sym (append-nil q.listed));
   }
-  listed_left First (suc n) t = subst (λ k. IsListed First k q p lines) (same_count n) t
-  listed_left Second (suc n) t = subst (λ k. IsListed Second k q p lines) (same_count n) t
+  listed_left First (suc n) t = subst (λ k. LeavesListed First k q p lines) (same_count n) t
+  listed_left Second (suc n) t = subst (λ k. LeavesListed Second k q p lines) (same_count n) t
 
   -- the place stands behind the last line of the system
   system_left : (i : ℕ) (b : Bool)
@@ -133,7 +133,7 @@ waiting_more left q p line lines z e t = record {
 }
 
 listed_more : (v : Version) (left : ℕ) (q p : Progress) (line : List ℕ) (lines : List (List ℕ)) (z : List ℤ)
-    → line ≡ line_of z → IsListed v (left - 1) (with_listed z q) p lines → IsListed v (suc (left - 1)) q p (line ∷ lines)
+    → line ≡ line_of z → LeavesListed v (left - 1) (with_listed z q) p lines → LeavesListed v (suc (left - 1)) q p (line ∷ lines)
 listed_more v left q p line lines z e t =
     let rows : (q.listed ++ z ∷ []) ++ t.listed ≡ q.listed ++ z ∷ t.listed = append_assoc q.listed (z ∷ []) t.listed in
     record {
@@ -187,7 +187,7 @@ module _ (S : ToolSystem) (v : Version) (q p : Progress) (line : List ℕ) (next
       let s : IsTail S v ListedLine (with_used f.0 q) p lines = is_at (at v ListedLine (with_used f.0 q)) f.2 in
       (f.0, s.0, s.1, s.2, both line (counts_line (codes "used ") (f.0 ∷ [])) lines (count_part v q s.0 s.1) f.1.written s.3)
   line_more ListedLine f =
-      let s : IsListed v f.0 q p lines = listed_left S v q p lines v f.0 (is_at (at v (listed_due v f.0) q) f.2) in
+      let s : LeavesListed v f.0 q p lines = listed_left S v q p lines v f.0 (is_at (at v (listed_due v f.0) q) f.2) in
       let counted : List ℕ = counts_line (codes "listed ") (length s.listed ∷ []) in
       let e : line ≡ counted = f.1.written ∙ ap (λ n. counts_line (codes "listed ") (n ∷ [])) (sym s.count) in
       (s.listed, s.waiting, s.is, both line counted lines (listed_part v (q.listed ++ s.listed) s.listed s.waiting) e s.written)

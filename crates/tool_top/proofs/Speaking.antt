@@ -9,7 +9,7 @@ use Rattle.tool_words.specs.declared.jobs.WordEnd.{WordEnd}
 use Rattle.tool_words.specs.declared.jobs.WordEnd.TheVariants.{Usage as NoForm, Memory as NoMemory}
 use Rattle.tool_top.specs.declared.ends.End.{End}
 use Rattle.tool_top.specs.declared.ends.End.TheVariants.{Done}
-use Rattle.tool_top.specs.Messages.{Speaks, IsDone, message_of}
+use Rattle.tool_top.specs.Messages.{Speaks, IsDoneEnd, message_of}
 use Rattle.tool_top.specs.Inside.Ends.{end_of_words}
 
 -- a text that was put whole or in part
@@ -18,11 +18,11 @@ may_put (Ok u) text old new done refused =
     (length text, done ∙ ap (append_known old) (sym (take_all (length text) text (let h : length text ≤ length text = omega arith in h))))
 may_put (Err e) text old new done refused = refused
 
-pub silent : (tool : Tool) (project : List ℕ) (end : End) (old : Option (List ℕ)) → IsDone end → Speaks tool project end old old
+pub silent : (tool : Tool) (project : List ℕ) (end : End) (old : Option (List ℕ)) → IsDoneEnd end → Speaks tool project end old old
 silent tool project (Done s p n) old is = refl
 silent tool project end old is = absurd is
 
-pub spoken : (tool : Tool) (project : List ℕ) (end : End) (old new : Option (List ℕ)) → (IsDone end → ⊥) → MayPut (message_of tool project end) old new → Speaks tool project end old new
+pub spoken : (tool : Tool) (project : List ℕ) (end : End) (old new : Option (List ℕ)) → (IsDoneEnd end → ⊥) → MayPut (message_of tool project end) old new → Speaks tool project end old new
 spoken tool project (Done s p n) old new not may = absurd (not tt)
 spoken tool project end old new not may = may
 

@@ -144,6 +144,6 @@ Speaks tool project (Done solutions pairs norms) old new = new ≡ old
 Speaks tool project end old new = MayPut (message_of tool project end) old new
 
 -- all is done, and there is nothing to say
-abbrev pub IsDone : End → Type 0
-IsDone (Done solutions pairs norms) = Unit {0}
-IsDone end = ⊥
+abbrev pub IsDoneEnd : End → Type 0
+IsDoneEnd (Done solutions pairs norms) = Unit {0}
+IsDoneEnd end = ⊥

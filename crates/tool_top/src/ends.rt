@@ -2,7 +2,7 @@
 
 ghost use Rattle.std.specs.Prelude.{◌≡◌, IsTrue};
 ghost use Rattle.tool_top.specs.declared.ends.End.TheVariants.{Memory};
-ghost use Rattle.tool_top.specs.Messages.{IsDone};
+ghost use Rattle.tool_top.specs.Messages.{IsDoneEnd};
 ghost use Rattle.tool_top.specs.Summary.{code_of};
 ghost use Rattle.tool_top.specs.Plan.{part_of, part_of_slot, answer_of};
 ghost use Rattle.tool_top.specs.Inside.Ends.{end_at, end_of};
@@ -255,8 +255,8 @@ pub struct Status {
 
 // Whether all is done.
 pub(crate) fn is_done(end: &End) -> bool
-    ensures done { IsTrue result → IsDone end.now }
-    ensures other { IsDone end.now → IsTrue result }
+    ensures done { IsTrue result → IsDoneEnd end.now }
+    ensures other { IsDoneEnd end.now → IsTrue result }
 {
     match end {
         End::Done { .. } => true,

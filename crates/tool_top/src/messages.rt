@@ -7,7 +7,7 @@ ghost use Rattle.std.specs.Fmt.{signed_decimal};
 ghost use Rattle.std.specs.Io.KnownBytes.{append_known};
 ghost use Rattle.outside.specs.Causes.{HasCause};
 ghost use Rattle.outside.specs.Pieces.{MayPut, text_of_parts};
-ghost use Rattle.tool_top.specs.Messages.{IsDone, about, bad_sign, entries, message_of, overflow_words, part_name, shape_fault_words, shape_part, text_fault, tool_name, usage_of, line_words, wrong_shape};
+ghost use Rattle.tool_top.specs.Messages.{IsDoneEnd, about, bad_sign, entries, message_of, overflow_words, part_name, shape_fault_words, shape_part, text_fault, tool_name, usage_of, line_words, wrong_shape};
 
 use crate::causes::put_causes;
 use crate::names::ending;
@@ -507,7 +507,7 @@ fn put_line<E: Sink>(err: &mut E, tool: Tool, project: &str, end: &End) -> Resul
 /// # Errors
 /// The sink refused a part of the line. A prefix of the line was put.
 pub fn put_message<E: Sink>(tool: Tool, project: &str, end: &End, err: &mut E) -> Result<(), PutEnd>
-    requires { IsDone end.now → ⊥ }
+    requires { IsDoneEnd end.now → ⊥ }
 
     // The whole line came.
     ensures done { OnOk result

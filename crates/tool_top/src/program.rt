@@ -1,6 +1,6 @@
 //! What the programs share: the machine's words, folder and streams, handed to the top call.
 
-ghost use Rattle.tool_top.specs.Messages.{IsDone};
+ghost use Rattle.tool_top.specs.Messages.{IsDoneEnd};
 
 use crate::ends::code;
 use crate::{End, put_message, run_tool};
@@ -38,7 +38,7 @@ fn hold_closed_streams(rt: &HostRuntime) -> [io::Result<File>; 3] {
 
 // Puts the line of an end that comes before the top call, and gives its exit status.
 fn refuse<E: Sink>(tool: Tool, end: &End, err: &mut E) -> ExitCode
-    requires { IsDone end.now → ⊥ }
+    requires { IsDoneEnd end.now → ⊥ }
 {
     // A failure of standard error changes no status.
     let _ = put_message(tool, "", end, err);
