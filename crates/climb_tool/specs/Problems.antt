@@ -6,7 +6,8 @@ use Rattle.std.specs.FinMap.{get}
 use Rattle.outside.specs.Files.{Files}
 use Rattle.int_vector.specs.Range.{InRange}
 use Rattle.mat_files.specs.Cells.{Matrix}
-use Rattle.system_files.specs.Files.{◌>>=◌, grid_in}
+use Rattle.mat_files.specs.Tables.{◌>>=◌}
+use Rattle.system_files.specs.Files.{grid_in}
 use Rattle.system_files.specs.declared.faults.FileFault.{FileFault}
 use Rattle.system_files.specs.declared.faults.FileEnd.{FileEnd}
 use Rattle.system_files.specs.declared.faults.FileEnd.TheVariants as file

@@ -7,7 +7,7 @@ use Rattle.int_vector.specs.Vectors.{IsZero}
 use Rattle.mat_files.specs.Cells.{Matrix}
 use Rattle.lift_core.specs.declared.Tool.{Tool}
 use Rattle.lift_core.proofs.Cells.{length-cut_rows}
-use Rattle.system_files.specs.Files.{◌>>=◌}
+use Rattle.mat_files.specs.Tables.{◌>>=◌}
 use Rattle.system_files.specs.Inputs.{accepted_in}
 use Rattle.system_files.specs.Kernel.{rows_in}
 use Rattle.system_files.specs.declared.systems.Shaped.{Shaped}

@@ -6,7 +6,8 @@ use Rattle.mat_files.specs.Cells.{Matrix}
 use Rattle.lift_core.specs.declared.Tool.{Tool}
 use Rattle.lift_core.specs.declared.Tool.TheVariants.{Graver, Hilbert, Zsolve}
 use Rattle.system_shape.specs.declared.files.Input.{Input}
-use Rattle.system_files.specs.Files.{◌>>=◌, grid_in}
+use Rattle.mat_files.specs.Tables.{◌>>=◌}
+use Rattle.system_files.specs.Files.{grid_in}
 use Rattle.system_files.specs.Inputs.{accepted_in}
 use Rattle.system_files.specs.declared.faults.FileFault.{FileFault}
 use Rattle.system_files.specs.declared.faults.FileEnd.{FileEnd}

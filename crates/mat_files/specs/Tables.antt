@@ -11,10 +11,9 @@ pub record Table (C : Type 0) : Type 0 where
   pub cols : ℕ
   pub cells : List C
 
--- the first fault ends the reading
+-- the first fault stands, or the next step is taken
 infixl 10 ◌>>=◌
-abbrev pub ◌>>=◌ : {A B : Type 0} → Result A TextFault → (A → Result B TextFault)
-    → Result B TextFault
+abbrev pub ◌>>=◌ : {A B E : Type 0} → Result A E → (A → Result B E) → Result B E
 (Ok x) >>= f = f x
 (Err e) >>= f = Err e
 

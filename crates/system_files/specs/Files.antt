@@ -2,17 +2,12 @@
 use Rattle.std.specs.Prelude.{◌≡◌, ◌≤◌, ℕ, nat_lt, if◌then◌else◌, List, length, Option, None, Some, Result, Ok, Err}
 use Rattle.outside.specs.Causes.{Rose}
 use Rattle.mat_files.specs.Cells.{Matrix, matrix_of, Relations, relation_table_of, CapTable, cap_table_of}
+use Rattle.mat_files.specs.Tables.{◌>>=◌}
 use Rattle.mat_files.specs.declared.faults.TextFault.{TextFault}
 use Rattle.system_files.specs.declared.faults.FileFault.{FileFault}
 use Rattle.system_files.specs.declared.faults.FileFault.TheVariants.{Missing, TooLong, Text}
 use Rattle.system_files.specs.declared.faults.FileEnd.{FileEnd}
 use Rattle.system_files.specs.declared.faults.FileEnd.TheVariants.{Bad, Failed, Memory}
-
--- the first fault stands, or the next step is taken
-infixl 10 ◌>>=◌
-abbrev pub ◌>>=◌ : {A B E : Type 0} → Result A E → (A → Result B E) → Result B E
-(Ok x) >>= f = f x
-(Err e) >>= f = Err e
 
 -- the bytes of a file of at most so many, none where it is not there
 abbrev pub text_in : ℕ → Option (List ℕ) → Result (Option (List ℕ)) FileFault

@@ -10,7 +10,8 @@ use Rattle.system_shape.specs.Shape.{user_system, tool_system, shape_fault}
 use Rattle.system_shape.specs.declared.files.Input.{Input}
 use Rattle.system_shape.specs.declared.faults.ShapeFault.{ShapeFault}
 use Rattle.system_files.specs.Sources.{file_name}
-use Rattle.system_files.specs.Files.{◌>>=◌, grid_in, optional_grid_in, optional_relations_in, optional_caps_in}
+use Rattle.mat_files.specs.Tables.{◌>>=◌}
+use Rattle.system_files.specs.Files.{grid_in, optional_grid_in, optional_relations_in, optional_caps_in}
 use Rattle.system_files.specs.declared.sources.Source.{Source}
 use Rattle.system_files.specs.declared.sources.Source.TheVariants.{Mat, Sign, Rel, Rhs, Cap, Lat, Lb, Ub}
 use Rattle.system_files.specs.declared.faults.FileFault.{FileFault}

@@ -9,7 +9,7 @@ use Rattle.lift_core.specs.declared.Tool.{Tool}
 use Rattle.lift_core.specs.declared.Tool.TheVariants.{Graver, Hilbert, Zsolve}
 use Rattle.system_shape.specs.Problem.{UserSystem}
 use Rattle.system_shape.specs.declared.files.Input.{Input}
-use Rattle.system_files.specs.Files.{◌>>=◌}
+use Rattle.mat_files.specs.Tables.{◌>>=◌}
 use Rattle.system_files.specs.Inputs.{accepted_in}
 use Rattle.system_files.specs.declared.faults.InputFault.{InputFault}
 use Rattle.backups.specs.declared.starts.Start.{Start}

@@ -12,7 +12,7 @@ use Rattle.system_files.specs.declared.sources.Source.TheVariants as source
 use Rattle.system_files.specs.declared.faults.FileFault.TheVariants as file_fault
 use Rattle.system_files.specs.declared.faults.InputFault.{InputFault}
 use Rattle.system_files.specs.declared.faults.InputFault.TheVariants as input_fault
-use Rattle.system_files.specs.Files.{◌>>=◌}
+use Rattle.mat_files.specs.Tables.{◌>>=◌}
 use Rattle.system_files.specs.Inputs.{unless_fault, accepted_in}
 use Rattle.tool_words.specs.Jobs.{job_of}
 use Rattle.backups.specs.declared.starts.Slot.{Slot}
