@@ -89,8 +89,12 @@ fn write_rows<F: Folder, O: Sink>(
     requires columns { (sets.now.mat.cols ≡ sets.now.set.cols) × (sets.now.mat.cols ≤ 64) }
     requires kernel { AreInKernel sets.now }
     ensures ends { IfSome (F.held folder.old) (λ files. EndsWith project.now sets.now
-        (record { files_before = files; files_after = F.held folder.new;
-        out_before = O.held out.old; out_after = O.held out.new }) result) }
+        (record {
+          files_before = files;
+          files_after = F.held folder.new;
+          out_before = O.held out.old;
+          out_after = O.held out.new;
+        }) result) }
     ensures words { result ≡ Err Stop.Usage → ⊥ }
     ensures cause { HasCauses (F.faults folder.old) (F.faults folder.new) (O.faults out.old)
         (O.faults out.new) result }
@@ -111,8 +115,12 @@ fn conclude<F: Folder, O: Sink>(
 ) -> Result<u64, Stop>
     requires { (sets.now.mat.cols ≡ sets.now.set.cols) × (sets.now.mat.cols ≤ 64) }
     ensures ends { IfSome (F.held folder.old) (λ files. EndsWith project.now sets.now
-        (record { files_before = files; files_after = F.held folder.new;
-        out_before = O.held out.old; out_after = O.held out.new }) result) }
+        (record {
+          files_before = files;
+          files_after = F.held folder.new;
+          out_before = O.held out.old;
+          out_after = O.held out.new;
+        }) result) }
     ensures words { result ≡ Err Stop.Usage → ⊥ }
     ensures cause { HasCauses (F.faults folder.old) (F.faults folder.new) (O.faults out.old)
         (O.faults out.new) result }
@@ -131,8 +139,12 @@ fn finish<F: Folder, O: Sink>(
     out: &mut O,
 ) -> Result<u64, Stop>
     ensures ends { IfSome (F.held folder.old) (λ files. Ends (planned words.now files)
-        (record { files_before = files; files_after = F.held folder.new;
-        out_before = O.held out.old; out_after = O.held out.new }) result) }
+        (record {
+          files_before = files;
+          files_after = F.held folder.new;
+          out_before = O.held out.old;
+          out_after = O.held out.new;
+        }) result) }
     ensures words { result ≡ Err Stop.Usage ↔ (project_in words.now ≡ None) }
     ensures cause { HasCauses (F.faults folder.old) (F.faults folder.new) (O.faults out.old)
         (O.faults out.new) result }
@@ -168,8 +180,12 @@ pub fn run_circuits<F: Folder, O: Sink, E: Sink>(
     ensures ends { (outcome : Result ℕ Stop) × (result.end ≡ end_of outcome)
         × Says (unwrap_or (project_in words.now) []) outcome (E.held err.old) (E.held err.new)
         × IfSome (F.held folder.old) (λ files. Ends (planned words.now files)
-        (record { files_before = files; files_after = F.held folder.new;
-        out_before = O.held out.old; out_after = O.held out.new }) outcome) }
+        (record {
+          files_before = files;
+          files_after = F.held folder.new;
+          out_before = O.held out.old;
+          out_after = O.held out.new;
+        }) outcome) }
 
     // Of a Graver basis, the rows that are written are exactly the circuits.
     ensures circuits { LeastRowsAreCircuits }

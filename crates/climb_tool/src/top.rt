@@ -157,8 +157,12 @@ fn write_path<F: Folder, O: Sink>(
     requires kernel { AreInKernel problem.now }
     requires few { budget ≤ 65536 }
     ensures ends { IfSome (F.held folder.old) (λ files. EndsWith project.now problem.now budget
-        (record { files_before = files; files_after = F.held folder.new;
-        out_before = O.held out.old; out_after = O.held out.new }) result) }
+        (record {
+          files_before = files;
+          files_after = F.held folder.new;
+          out_before = O.held out.old;
+          out_after = O.held out.new;
+        }) result) }
     ensures words { result ≡ Err Stop.Usage → ⊥ }
     ensures cause { HasCauses (F.faults folder.old) (F.faults folder.new) (O.faults out.old)
         (O.faults out.new) result }
@@ -181,8 +185,12 @@ fn conclude<F: Folder, O: Sink>(
     requires problem { IsProblem problem.now }
     requires few { budget ≤ 65536 }
     ensures ends { IfSome (F.held folder.old) (λ files. EndsWith project.now problem.now budget
-        (record { files_before = files; files_after = F.held folder.new;
-        out_before = O.held out.old; out_after = O.held out.new }) result) }
+        (record {
+          files_before = files;
+          files_after = F.held folder.new;
+          out_before = O.held out.old;
+          out_after = O.held out.new;
+        }) result) }
     ensures words { result ≡ Err Stop.Usage → ⊥ }
     ensures cause { HasCauses (F.faults folder.old) (F.faults folder.new) (O.faults out.old)
         (O.faults out.new) result }
@@ -201,8 +209,12 @@ fn finish<F: Folder, O: Sink>(
     out: &mut O,
 ) -> Result<Reached, Stop>
     ensures ends { IfSome (F.held folder.old) (λ files. Ends (planned words.now files)
-        (record { files_before = files; files_after = F.held folder.new;
-        out_before = O.held out.old; out_after = O.held out.new }) result) }
+        (record {
+          files_before = files;
+          files_after = F.held folder.new;
+          out_before = O.held out.old;
+          out_after = O.held out.new;
+        }) result) }
     ensures words { result ≡ Err Stop.Usage ↔ (command_in words.now ≡ None) }
     ensures cause { HasCauses (F.faults folder.old) (F.faults folder.new) (O.faults out.old)
         (O.faults out.new) result }
@@ -252,8 +264,12 @@ pub fn run_climb<F: Folder, O: Sink, E: Sink>(
     ensures ends { (outcome : Result Reached Stop) × (result.end ≡ end_of outcome)
         × Says (project_of (command_in words.now)) outcome (E.held err.old) (E.held err.new)
         × IfSome (F.held folder.old) (λ files. Ends (planned words.now files)
-        (record { files_before = files; files_after = F.held folder.new;
-        out_before = O.held out.old; out_after = O.held out.new }) outcome) }
+        (record {
+          files_before = files;
+          files_after = F.held folder.new;
+          out_before = O.held out.old;
+          out_after = O.held out.new;
+        }) outcome) }
 
     // Whether the words are a command's is decided by the words alone.
     ensures words { result.end ≡ ClimbEnd.Usage ↔ (command_in words.now ≡ None) }

@@ -131,8 +131,12 @@ fn conclude<F: Folder, O: Sink>(
     requires second { IfSome sets.now.second (λ grid. grid.rows ≤ 2097152) }
     ensures ends { IfSome (F.held folder.old)
         (λ files. EndsWith (plan_of project.now shaped.now sets.now)
-        (record { files_before = files; files_after = F.held folder.new;
-        out_before = O.held out.old; out_after = O.held out.new }) result) }
+        (record {
+          files_before = files;
+          files_after = F.held folder.new;
+          out_before = O.held out.old;
+          out_after = O.held out.new;
+        }) result) }
     ensures whole { HoldWanted shaped.now.system.tool (user_of shaped.now) sets.now
         → (rest : List ℤ) → result ≡ Ok (Ending.Left rest) → ⊥ }
     ensures words { result ≡ Err Stop.Usage → ⊥ }
@@ -180,8 +184,12 @@ fn finish<F: Folder, O: Sink>(
     out: &mut O,
 ) -> Result<Ending, Stop>
     ensures ends { IfSome (F.held folder.old) (λ files. Ends (planned words.now files)
-        (record { files_before = files; files_after = F.held folder.new;
-        out_before = O.held out.old; out_after = O.held out.new }) result) }
+        (record {
+          files_before = files;
+          files_after = F.held folder.new;
+          out_before = O.held out.old;
+          out_after = O.held out.new;
+        }) result) }
     ensures whole { IfSome (F.held folder.old)
         (λ files. NothingLeft (planned words.now files) (end_of result)) }
     ensures words { result ≡ Err Stop.Usage ↔ (asked_in words.now ≡ None) }
@@ -225,8 +233,12 @@ pub fn run_decompose<F: Folder, O: Sink, E: Sink>(
     ensures ends { (outcome : Result Ending Stop) × (result.end ≡ end_of outcome)
         × Says (project_of (asked_in words.now)) outcome (E.held err.old) (E.held err.new)
         × IfSome (F.held folder.old) (λ files. Ends (planned words.now files)
-        (record { files_before = files; files_after = F.held folder.new;
-        out_before = O.held out.old; out_after = O.held out.new }) outcome) }
+        (record {
+          files_before = files;
+          files_after = F.held folder.new;
+          out_before = O.held out.old;
+          out_after = O.held out.new;
+        }) outcome) }
 
     // Where the set files hold what the tool writes for the system, nothing is left of any solution.
     ensures whole { IfSome (F.held folder.old)

@@ -188,8 +188,12 @@ fn carry_out<R: Threads + Sync, F: Folder, O: Sink, G: Gate + Sync>(
         → StartsAs (record { job = job.now; tool = tool; input = input; stored = stored }) start
         → IfSome (F.held folder.old)
         (λ files. Ends (Ok (record { job = job.now; tool = tool; input = input; stored = stored }))
-        (record { files_before = files; files_after = F.held folder.new;
-        out_before = O.held out.old; out_after = O.held out.new })
+        (record {
+          files_before = files;
+          files_after = F.held folder.new;
+          out_before = O.held out.old;
+          out_after = O.held out.new;
+        })
         (end_of result)) }
     ensures apart { IsSome job.now.tables → folder.new ≡ folder.old }
     ensures tells { Tells (Some job.now) (O.held out.old) (O.held out.new) (end_of result) }
@@ -276,8 +280,12 @@ fn attempt<R: Threads + Sync, F: Folder, O: Sink, G: Gate + Sync>(
 ) -> Result<Totals, End>
     requires { IsWithinLimits job.now }
     ensures ends { IfSome (F.held folder.old) (λ files. Ends (plan_of tool job.now files)
-        (record { files_before = files; files_after = F.held folder.new;
-        out_before = O.held out.old; out_after = O.held out.new })
+        (record {
+          files_before = files;
+          files_after = F.held folder.new;
+          out_before = O.held out.old;
+          out_after = O.held out.new;
+        })
         (end_of result)) }
     ensures apart { IsSome job.now.tables → folder.new ≡ folder.old }
     ensures tells { Tells (Some job.now) (O.held out.old) (O.held out.new) (end_of result) }
@@ -317,8 +325,12 @@ fn finish<R: Threads + Sync, F: Folder, O: Sink, E: Sink, G: Gate + Sync>(
     requires { IfOk job IsWithinLimits }
     ensures ends { (asked : Option Job) → Asks asked job
         → IfSome (F.held folder.old) (λ files. Ends (plan_for tool asked files)
-        (record { files_before = files; files_after = F.held folder.new;
-        out_before = O.held out.old; out_after = O.held out.new })
+        (record {
+          files_before = files;
+          files_after = F.held folder.new;
+          out_before = O.held out.old;
+          out_after = O.held out.new;
+        })
         result) }
     ensures apart { (asked : Option Job) → Asks asked job → HasTables asked
         → folder.new ≡ folder.old }
@@ -409,8 +421,12 @@ pub fn run_tool<R: Threads + Sync, F: Folder, O: Sink, E: Sink, G: Gate + Sync>(
 
     // What then stands in the folder and on standard output.
     ensures leaves { IfSome (F.held folder.old) (λ files. Leaves (planned tool words.now files)
-        (record { files_before = files; files_after = F.held folder.new;
-        out_before = O.held out.old; out_after = O.held out.new })
+        (record {
+          files_before = files;
+          files_after = F.held folder.new;
+          out_before = O.held out.old;
+          out_after = O.held out.new;
+        })
         result.end) }
 
     // With tables, no call of the folder is made.
