@@ -87,12 +87,12 @@ front_at (x ∷ []) j l = absurd (omega arith)
 front_at (x ∷ y ∷ u) zero l = refl
 front_at (x ∷ y ∷ u) (suc j) l = front_at (y ∷ u) j (omega arith)
 
-front_length : (u : List ℤ) → 0 < length u → length (front u) + 1 ≡ length u
+pub front_length : (u : List ℤ) → 0 < length u → length (front u) + 1 ≡ length u
 front_length [] l = absurd (omega arith)
 front_length (x ∷ []) l = refl
 front_length (x ∷ y ∷ u) l = let r = front_length (y ∷ u) (omega arith) in omega (arith, r)
 
-plus_turned : (x y : ℤ) → (x +ℤ y) ≡ (y +ℤ x)
+pub plus_turned : (x y : ℤ) → (x +ℤ y) ≡ (y +ℤ x)
 plus_turned x y = omega (arith, ints)
 
 zip_at : (caps : List (Option ℕ)) (v : List ℤ) (j : ℕ) → AllZip IsCapped caps v → j < length caps → IsCapped (get_or caps j None) (get_or v j (pos 0))

@@ -57,10 +57,10 @@ within_under x y r p q h = grind (arith, ints)
 within_above : (x y : ℤ) (r : ℕ) → pos 0 <ℤ x → y <ℤ pos 0 → nat_abs y + r ≤ nat_abs x → IsWithin (pos r) (x +ℤ y)
 within_above x y r p q h = grind (arith, ints)
 
-against_above : (x : ℤ) (r : ℕ) → pos 0 <ℤ x → entry_against x r ≡ neg_ℤ (pos r)
+pub against_above : (x : ℤ) (r : ℕ) → pos 0 <ℤ x → entry_against x r ≡ neg_ℤ (pos r)
 against_above x r p = ap (λ b. cond b (neg_ℤ (pos r)) (pos r)) (less_is (pos 0) x p)
 
-against_under : (x : ℤ) (r : ℕ) → x <ℤ pos 0 → entry_against x r ≡ pos r
+pub against_under : (x : ℤ) (r : ℕ) → x <ℤ pos 0 → entry_against x r ≡ pos r
 against_under x r q = elim (cases_Bool (int_lt (pos 0) x)) [
   | inl t ↦ absurd (omega (arith, ints, t, q))
   | inr t ↦ ap (λ b. cond b (neg_ℤ (pos r)) (pos r)) t

@@ -6,6 +6,8 @@
 #[cfg(test)]
 mod counts;
 #[cfg(test)]
+mod drawn;
+#[cfg(test)]
 mod plain;
 #[cfg(test)]
 mod rebuilds;

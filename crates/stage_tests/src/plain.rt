@@ -92,3 +92,23 @@ pub fn is_among(rows: &Pool, f: &[i64], g: &[i64]) -> bool {
     }
     false
 }
+
+// How many rows g there are with which f is a pair of this norm that has an irreducible sum.
+fn count_with(stage: &Stage, f: &[i64], norm: u64, cap: u64) -> u32 {
+    let mut count: u32 = 0;
+    for place in 0..stage.len() {
+        if has_new_sum(stage, f, stage.row(RowId(place)), norm, cap) {
+            count = count.saturating_add(1);
+        }
+    }
+    count
+}
+
+/// The number of pairs of this norm that have an irreducible sum.
+pub fn count_new_sums(stage: &Stage, norm: u64, cap: u64) -> u32 {
+    let mut count: u32 = 0;
+    for place in 0..stage.len() {
+        count = count.saturating_add(count_with(stage, stage.row(RowId(place)), norm, cap));
+    }
+    count
+}

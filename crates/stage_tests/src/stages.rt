@@ -1,6 +1,6 @@
-//! Stages of one equation over three columns, norm by norm.
+//! Stages of one and of two equations over three columns, norm by norm.
 
-ghost use Rattle.std.specs.Prelude.{All};
+ghost use Rattle.std.specs.Prelude.{◌≡◌, ◌≤◌, ◌%◌, All, length};
 ghost use Rattle.int_vector.specs.Range.{IsCap};
 ghost use Rattle.lift_core.specs.ToolSystems.{IsSign};
 ghost use Rattle.int_vector.specs.Range.{InRange};
@@ -14,6 +14,22 @@ use std::test::Fail;
 // More norms than a stage of these tests has.
 const NORMS: u32 = 100;
 
+// The first stage of these equations over three columns of this sign and this cap.
+fn started(alloc: Global, rows: Vec<i64>, sign: i8, cap: Option<u64>) -> Result<Stage, AllocError>
+    requires rows { All InRange rows.items }
+    requires whole { length rows.items % 3 ≡ 0 }
+    requires few { length rows.items ≤ 192 }
+    requires sign { IsSign sign }
+    requires cap { IsCap cap }
+{
+    let signs = Vec::from_slice(alloc, &[sign; 3])?;
+    let caps = Vec::from_slice(alloc, &[cap; 3])?;
+    match Stage::first(alloc, System::build(Tool::Graver, 3, 3, rows, signs, caps))? {
+        Lifted::Next(stage) => Ok(stage),
+        Lifted::Last(_) => Err(AllocError),
+    }
+}
+
 /// The first stage of an equation over columns of this sign and this cap.
 pub fn first(alloc: Global, row: [i64; 3], sign: i8, cap: Option<u64>) -> Result<Stage, AllocError>
     requires row { All InRange row }
@@ -21,12 +37,22 @@ pub fn first(alloc: Global, row: [i64; 3], sign: i8, cap: Option<u64>) -> Result
     requires cap { IsCap cap }
 {
     let rows = Vec::from_slice(alloc, &row)?;
-    let signs = Vec::from_slice(alloc, &[sign; 3])?;
-    let caps = Vec::from_slice(alloc, &[cap; 3])?;
-    match Stage::first(alloc, System::build(Tool::Graver, 3, 3, rows, signs, caps))? {
-        Lifted::Next(stage) => Ok(stage),
-        Lifted::Last(_) => Err(AllocError),
-    }
+    started(alloc, rows, sign, cap)
+}
+
+/// The first stage of two equations.
+pub fn first_of_two(
+    alloc: Global,
+    rows: [i64; 6],
+    sign: i8,
+    cap: Option<u64>,
+) -> Result<Stage, AllocError>
+    requires rows { All InRange rows }
+    requires sign { IsSign sign }
+    requires cap { IsCap cap }
+{
+    let rows = Vec::from_slice(alloc, &rows)?;
+    started(alloc, rows, sign, cap)
 }
 
 /// Closes the next norm. False where none is left.

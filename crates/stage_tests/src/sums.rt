@@ -1,7 +1,7 @@
 //! The sums that `gather` gives for the pairs of a norm, range by range, beside the plain definition: all pairs of listed rows
 //! with that norm whose sum has no opposite signs, stays within the caps and has no listed row below it.
 
-ghost use Rattle.std.specs.Prelude.{◌≡◌, ◌+◌, ◌≤◌, OnOk};
+ghost use Rattle.std.specs.Prelude.{◌≡◌, ◌+◌, ◌≤◌, length, OnOk};
 ghost use Rattle.lift_core.specs.ToolSystems.{width};
 
 use crate::plain::{has_new_sum, is_among, is_sum};
@@ -13,8 +13,6 @@ use std::test::Fail;
 
 // More norms than a stage of these tests has.
 const NORMS: u32 = 100;
-// More ranges than a norm of these tests has.
-const RANGES: u64 = 300;
 // More than any entry of these tests.
 const NO_CAP: u64 = 1_000_000;
 
@@ -31,15 +29,18 @@ fn make_room(rows: &mut Pool, count: u32) -> Result<(), AllocError>
 
 // Takes in the sums of `size` pairs from number `first` on, or of those that are left.
 fn take_range(
-    alloc: Global,
     stage: &Stage,
     norm: u64,
     first: u64,
     size: u32,
+    hints: &mut Hints,
+    sum: &mut [i64],
     rows: &mut Pool,
 ) -> Result<(), AllocError>
     requires small { norm ≤ 9223372036854775807 }
+    requires sum { length sum.old ≡ width stage.now.system.equations + 1 }
     requires width { rows.old.width ≡ width stage.now.system.equations + 1 }
+    ensures sum { length sum.new ≡ length sum.old }
     ensures width { rows.new.width ≡ rows.old.width }
 {
     let left = stage.pairs_at(norm).saturating_sub(first);
@@ -48,25 +49,28 @@ fn take_range(
         return Ok(());
     }
     make_room(rows, size)?;
-    let mut hints = Hints::new(alloc)?;
-    let mut sum = vec![in alloc; 0; rows.width() as usize]?;
-    stage.gather(norm, first, count, &mut hints, &mut sum, rows);
+    stage.gather(norm, first, count, hints, sum, rows);
     Ok(())
 }
 
-// The sums of all pairs of a norm, in ranges of this size.
+// The sums of all pairs of a norm, in ranges of this size, as a worker gathers them.
 fn gathered(alloc: Global, stage: &Stage, norm: u64, size: u32) -> Result<Pool, AllocError>
     requires { norm ≤ 9223372036854775807 }
 {
     stage.keeps();
-    let mut rows = Pool::new(alloc, stage.system().width() + 1);
-    for k in 0..RANGES {
+    let width = stage.system().width() + 1;
+    let mut rows = Pool::new(alloc, width);
+    let mut hints = Hints::new(alloc)?;
+    let mut sum = vec![in alloc; 0; width as usize]?;
+    // There are no more ranges than pairs.
+    for k in 0..stage.pairs_at(norm) {
         take_range(
-            alloc,
             stage,
             norm,
             k.saturating_mul(u64::from(size)),
             size,
+            &mut hints,
+            &mut sum,
             &mut rows,
         )?;
     }
@@ -133,8 +137,13 @@ fn agrees(alloc: Global, stage: &Stage, norm: u64, cap: u64, size: u32) -> Resul
     Ok(!misses(stage, &rows, norm, cap) && are_given(stage, &rows, norm, cap))
 }
 
-// The same for ranges of one pair, of seven pairs, and for all pairs at once.
-fn agrees_in_ranges(alloc: Global, stage: &Stage, norm: u64, cap: u64) -> Result<bool, AllocError>
+/// The same for ranges of one pair, of seven pairs, and for all pairs at once.
+pub fn agrees_in_ranges(
+    alloc: Global,
+    stage: &Stage,
+    norm: u64,
+    cap: u64,
+) -> Result<bool, AllocError>
     requires { norm ≤ 9223372036854775807 }
 {
     Ok(
