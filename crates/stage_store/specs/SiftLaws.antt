@@ -3,7 +3,7 @@ use Rattle.std.specs.Prelude.{ℕ, ◌+◌, ◌<◌, ◌≤◌, Bool, List, ℤ,
 use Rattle.std.specs.List.{Contains}
 use Rattle.lift_core.specs.Systems.{LinearSystem}
 use Rattle.lift_core.specs.Stages.{last}
-use Rattle.stage_store.specs.Found.{IsReduced}
+use Rattle.lift_core.specs.Halves.{IsReducible}
 use Rattle.stage_store.specs.Levels.{MakesNone, BarsAt, IsAgainst, IsFull, IsNear, IsOnSide}
 use Rattle.stage_store.specs.Reaches.{with_reach}
 use Rattle.stage_store.specs.Signs.{IsSigned}
@@ -42,7 +42,7 @@ FarMakesNone =
     (S : LinearSystem) (listed : List (List ℤ)) (f g : List ℤ) (r : ℕ) (positive : Bool)
     → IsAgainst positive (last f) → IsSigned positive (last g)
     → nat_abs (last f) + r ≤ nat_abs (last g)
-    → IsReduced listed (with_reach f r)
+    → IsReducible listed (with_reach f r)
     → MakesNone S listed f g
 
 -- more rows are listed

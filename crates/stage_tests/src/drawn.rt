@@ -2,8 +2,7 @@
 //! norms around each, which are not open: there `gather` goes through all pairs of the norm.
 
 ghost use Rattle.std.specs.Prelude.{◌≤◌};
-ghost use Rattle.row_pool.specs.Rows.{InRange};
-ghost use Rattle.int_vector.specs.Range.{IsCap};
+ghost use Rattle.int_vector.specs.Range.{InRange, IsCap};
 ghost use Rattle.lift_core.specs.ToolSystems.{IsSign};
 
 use crate::plain::count_new_sums;
