@@ -1,5 +1,5 @@
 # make demo               proves and builds `hilbert`, and runs it on two examples
-# make test               the whole merge gate
+# make test               the merge gate: `rt ci`, then examples, guide and conformance corpus over the built programs
 # make pictures           the pictures of examples/ and docs/, anew from the files that the programs wrote
 # make install PREFIX=DIR the programs under their own names and their man pages below DIR, as the gate built them
 PREFIX ?= /usr/local
