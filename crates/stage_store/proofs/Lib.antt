@@ -12,6 +12,7 @@ pub mod Merging
 pub mod Signs
 pub mod LineBits
 pub mod Levels
+pub mod Negatives
 pub mod Closing
 pub mod Used
 pub mod FirstWaiting

@@ -7,7 +7,7 @@ use Rattle.std.proofs.lemmas.List.{take-append-le, get_or_append_left}
 use Rattle.std.proofs.lemmas.List.Elements.{Contains-append_left}
 use Rattle.lift_core.specs.Systems.{LinearSystem}
 use Rattle.lift_core.specs.Stages.{stage_norm, has_positive_last, has_negative_last}
-use Rattle.stage_store.specs.declared.sieve.Table.{Table}
+use Rattle.stage_store.specs.declared.table.Table.{Table}
 use Rattle.stage_store.specs.declared.sieve.Sieve.{Sieve}
 use Rattle.stage_store.specs.Classes.{ClassValue, row_at, places, with_class}
 use Rattle.stage_store.specs.Levels.{BarsLine, ReachesLine, is_plus}

@@ -9,12 +9,12 @@ use Rattle.std.proofs.lemmas.Int.{ints}
 use Rattle.std.proofs.lemmas.List.{length-take-le}
 use Rattle.lift_core.specs.Systems.{LinearSystem}
 use Rattle.lift_core.specs.Stages.{stage_norm, has_positive_last, has_negative_last}
-use Rattle.stage_store.specs.declared.sieve.Group.{Group}
+use Rattle.stage_store.specs.declared.table.Group.{Group}
 use Rattle.lift_core.specs.ToolSystems.{width}
 use Rattle.stage_store.specs.Levels.{MakesNone}
 use Rattle.stage_store.specs.Classes.{row_at, places}
 use Rattle.stage_store.specs.declared.sieve.Sieve.{Sieve}
-use Rattle.stage_store.specs.declared.sieve.Table.{Table}
+use Rattle.stage_store.specs.declared.table.Table.{Table}
 use Rattle.stage_store.specs.declared.sieve.KeptPair.{KeptPair}
 use Rattle.stage_store.specs.Sieve.{AreSifted, IsTable, IsSieveTo, IsSieve, IsNewSieve, HasNoNewSumBy, IsSiftedBy, AreSiftedBy, AreWide, AreReads, AreBetween, IsGroup, IsSized, IsDead, pair_by}
 use Rattle.stage_store.specs.Lines.{Tell, AreMarked}

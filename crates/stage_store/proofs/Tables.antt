@@ -4,7 +4,7 @@ use Rattle.std.specs.Prelude.{ℤ, Result, Ok, Err, OnOk}
 use Rattle.std.specs.List.{AllByRecursion}
 use Rattle.std.proofs.lemmas.Bool.{cases_Bool, cases_lt, cases_eq}
 use Rattle.std.proofs.lemmas.List.{take_more, take_all, append-nil, length-take-le, get_or_append_left, get_or-append-add}
-use Rattle.stage_store.specs.declared.sieve.Group.{Group}
+use Rattle.stage_store.specs.declared.table.Group.{Group}
 use Rattle.stage_store.specs.Levels.{BarsLine, ReachesLine}
 use Rattle.stage_store.proofs.LineBits.{tell_stays, tell_marked}
 use Rattle.std.proofs.lemmas.List.{get_or-set_other, length-set}
@@ -17,7 +17,7 @@ use Rattle.std.proofs.Common.{◌^◌}
 use Rattle.std.proofs.lemmas.List.{take-append-drop}
 use Rattle.lift_core.specs.Systems.{LinearSystem}
 use Rattle.lift_core.specs.ToolSystems.{width}
-use Rattle.stage_store.specs.declared.sieve.Table.{Table}
+use Rattle.stage_store.specs.declared.table.Table.{Table}
 use Rattle.lift_core.specs.Stages.{stage_norm}
 use Rattle.stage_store.specs.Sieve.{AreBetween, IsGroup, AreGroups, IsSized, AreSized, IsTable}
 

@@ -1,6 +1,6 @@
 use Rattle.std.proofs.Common.{inl, inr}
 use Rattle.stage_store.proofs.LineBits.{either_bit}
-use Rattle.stage_store.proofs.sieve.Group.dead.Goals as goal
+use Rattle.stage_store.proofs.table.Group.dead.Goals as goal
 
 pub returns-then-barred : goal.returns-then-barred
 returns-then-barred c = λ r rl bit. inl (c.any-barred.ensures r rl bit)
