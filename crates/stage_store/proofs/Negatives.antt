@@ -1,11 +1,11 @@
 -- Negatives of rows: where the negative of each listed row is listed, a pair and that of the negatives of its rows have an
 -- irreducible sum together or not at all.
-use Rattle.std.proofs.Common.{◌≡◌, ◌⊎◌, ℕ, zero, suc, ◌+◌, ◌-◌, ◌*◌, ◌/◌, ◌%◌, ◌≤◌, ◌<◌, List, [], ◌∷◌, ◌++◌, length, get_or, take, refl, ap, sym, ◌∙◌, subst, subst₂, arith, inl, inr, Bool, true, false, cond}
-use Rattle.std.specs.Prelude.{ℤ, pos, ◌<ℤ◌, ◌≤ℤ◌, ◌+ℤ◌, ◌*ℤ◌, neg_ℤ, nat_abs, int_lt, not, map, Option, Some, None}
+use Rattle.std.proofs.Common.{◌≡◌, ◌⊎◌, ℕ, zero, suc, ◌+◌, ◌-◌, ◌*◌, ◌/◌, ◌%◌, ◌≤◌, ◌<◌, List, [], ◌∷◌, ◌++◌, length, length-append, get_or, take, refl, ap, sym, ◌∙◌, subst, subst₂, arith, inl, inr, Bool, true, false, cond}
+use Rattle.std.specs.Prelude.{ℤ, pos, ◌<ℤ◌, ◌≤ℤ◌, ◌+ℤ◌, ◌*ℤ◌, neg_ℤ, nat_abs, int_lt, not, map, Option, Some, None, ◌==◌}
 use Rattle.std.specs.List.{Contains, AllZip}
 use Rattle.std.proofs.lemmas.Bool.{cases_eq, cases_lt, cases_Bool}
 use Rattle.std.proofs.lemmas.Int.{ints}
-use Rattle.std.proofs.lemmas.List.{length-map, get_or_default}
+use Rattle.std.proofs.lemmas.List.{length-map, get_or_default, get_or_append_left, get_or-append-add}
 use Rattle.std.proofs.lemmas.List.Elements.{Contains-get_or}
 use Rattle.int_vector.specs.Vectors.{◌⊑◌, IsWithin, negated, norm}
 use Rattle.int_vector.specs.Operations.{add, AreConformal}
@@ -38,10 +38,7 @@ same_sign x y h = grind (arith, ints)
 -- ---- vectors
 pub negated_twice : (v : List ℤ) → negated (negated v) ≡ v
 negated_twice [] = refl
-negated_twice (x ∷ v) = ap₂-cons (twice x) (negated_twice v)
-  where
-    ap₂-cons : {x y : ℤ} {u v : List ℤ} → x ≡ y → u ≡ v → (x ∷ u) ≡ (y ∷ v)
-    ap₂-cons p q = subst₂ (λ a b. _ ≡ (a ∷ b)) p q refl
+negated_twice (x ∷ v) = subst₂ (λ (a : ℤ) (b : List ℤ). neg_ℤ (neg_ℤ x) ∷ negated (negated v) ≡ a ∷ b) (twice x) (negated_twice v) refl
 
 pub negated_length : (v : List ℤ) → length (negated v) ≡ length v
 negated_length v = length-map v neg_ℤ
@@ -114,6 +111,19 @@ all_negated [] (y ∷ v) n h = absurd (omega arith)
 all_negated (x ∷ u) [] n h = absurd (omega arith)
 all_negated (x ∷ u) (y ∷ v) n h = subst₂ (λ a b. x ∷ u ≡ a ∷ b) (h 0 (omega arith)) (all_negated u v (omega arith) (λ k l. h (suc k) (omega (arith, l)))) refl
 
+-- ---- items
+item_even : (k : ℕ) → k % 2 ≡ 0 → turned_item k ≡ k + 1
+item_even k e = ap (λ (n : ℕ). cond (n == 0) (k + 1) (k - 1)) e
+
+item_odd : (k : ℕ) → k % 2 ≡ 1 → turned_item k ≡ k - 1
+item_odd k e = ap (λ (n : ℕ). cond (n == 0) (k + 1) (k - 1)) e
+
+plus_even : (k : ℕ) → k % 2 ≡ 0 → is_plus k ≡ true
+plus_even k e = ap (λ (n : ℕ). n == 0) e
+
+plus_odd : (k : ℕ) → k % 2 ≡ 1 → is_plus k ≡ false
+plus_odd k e = ap (λ (n : ℕ). n == 0) e
+
 -- ---- the law of negatives
 -- the pair's sum, and that of the pair the other way round
 sum_turned : (S : LinearSystem) (listed : List (List ℤ)) (f g z : List ℤ) → length f ≡ length g → IsSumOf S listed f g z → IsSumOf S listed g f z
@@ -138,7 +148,6 @@ module _ (S : LinearSystem) (listed : List (List ℤ)) (closed : (u : List ℤ) 
   pub none_negated : (f g : List ℤ) → ((z : List ℤ) → IsSumOf S listed f g z → ⊥) → (z : List ℤ) → IsSumOf S listed (negated f) (negated g) z → ⊥
   none_negated f g h z s = h (negated z) (subst₂ (λ a b. IsSumOf S listed a b (negated z)) (negated_twice f) (negated_twice g) (sum_negated (negated f) (negated g) z s))
 
-  -- ---- levels
   signed_negated : (positive : Bool) (x : ℤ) → IsSigned positive x → IsSigned (not positive) (neg_ℤ x)
   signed_negated true x h = by_order x h
     where
@@ -163,14 +172,25 @@ module _ (S : LinearSystem) (listed : List (List ℤ)) (closed : (u : List ℤ) 
         as_second = λ z s. m.as_second (negated z) (subst (λ a. IsSumOf S listed (negated g) a (negated z)) (negated_twice f) (sum_negated g (negated f) z s));
       }
 
-  item_of : (m : ℕ) → (turned_item (m / 8) / 2 ≡ m / 8 / 2) × (is_plus (turned_item (m / 8)) ≡ not (is_plus (m / 8)))
-  item_of m = turned (m / 8)
-    where
-      turned : (k : ℕ) → (turned_item k / 2 ≡ k / 2) × (is_plus (turned_item k) ≡ not (is_plus k))
-      turned k = elim (cases_eq (k % 2) 0) [ inl e ↦ grind (arith, e) | inr d ↦ grind (arith, d) ]
+  line_negated : (f : List ℤ) (levels : List ℕ) (m k : ℕ) → AreTrue (BarsLine S listed f) true levels → k / 2 ≡ m / 8 / 2 → is_plus k ≡ not (is_plus (m / 8)) → k < length levels → get_or levels k 0 ≤ m % 8
+      → BarsLine S listed (negated f) m
+  line_negated f levels m k h half sign inside said =
+      let item : (8 * k + m % 8) / 8 ≡ k = omega arith in
+      let level : (8 * k + m % 8) % 8 ≡ m % 8 = omega arith in
+      let line : BarsLine S listed f (8 * k + m % 8) = h (8 * k + m % 8) (omega (arith, inside)) (subst₂ (λ (i l : ℕ). get_or levels i 0 ≤ l) (sym item) (sym level) said) in
+      let turned : BarsAt S listed f (k / 2) (is_plus k) (m % 8) = subst₂ (λ (i l : ℕ). BarsAt S listed f (i / 2) (is_plus i) l) item level line in
+      bars_negated f (m / 8 / 2) (m % 8) (is_plus (m / 8)) (subst₂ (λ (c : ℕ) (p : Bool). BarsAt S listed f c p (m % 8)) half sign turned)
 
   pub levels_negated : (f : List ℤ) (levels turned : List ℕ) → length levels % 2 ≡ 0 → IsTurnedLevels levels turned → AreTrue (BarsLine S listed f) true levels → AreTrue (BarsLine S listed (negated f)) true turned
-  levels_negated f levels turned even t h = λ m l said. absurd ?
+  levels_negated f levels turned even t h = λ m l said. elim (cases_eq (m / 8 % 2) 0) [
+    | inl e ↦
+        let at : get_or turned (m / 8) 0 ≡ get_or levels (m / 8 + 1) 0 = t.each (m / 8) (omega (arith, l)) ∙ ap (λ n. get_or levels n 0) (item_even (m / 8) e) in
+        line_negated f levels m (m / 8 + 1) h (omega (arith, e)) (plus_odd (m / 8 + 1) (omega (arith, e)) ∙ sym (ap not (plus_even (m / 8) e))) (omega (arith, l, t.count, even, e)) (subst (λ n. n ≤ m % 8) at said)
+    | inr d ↦
+        let o : m / 8 % 2 ≡ 1 = omega (arith, d) in
+        let at : get_or turned (m / 8) 0 ≡ get_or levels (m / 8 - 1) 0 = t.each (m / 8) (omega (arith, l)) ∙ ap (λ n. get_or levels n 0) (item_odd (m / 8) o) in
+        line_negated f levels m (m / 8 - 1) h (omega (arith, o)) (plus_even (m / 8 - 1) (omega (arith, o)) ∙ sym (ap not (plus_odd (m / 8) o))) (omega (arith, l, t.count)) (subst (λ n. n ≤ m % 8) at said)
+  ]
 
 -- ---- the mirror
 -- the negative of a listed row is listed
@@ -180,3 +200,87 @@ mirror_closed listed mirror h u c =
     let l : k < length mirror = omega (arith, c.1, h.count) in
     let at : row_at listed k ≡ u = get_or_default listed k [] u c.1 ∙ c.2 in
     subst (λ v. Contains listed v) (h.mirror_is.negative k l ∙ ap negated at) (Contains-get_or listed (place_in mirror k) [] (omega (arith, h.mirror_is.inside k l, h.count)))
+
+-- the pair of two rows has no irreducible sum, so that of their negatives has none
+pub none_turned : (positive : Bool) (S : LinearSystem) (listed : List (List ℤ)) (mirror : List ℕ) (i j : ℕ) → IsWholeMirror listed mirror → i < length listed → j < length listed → length (row_at listed i) ≡ length (row_at listed j)
+    → HasNoNewSumBy positive S listed i j → HasNoNewSumBy positive S listed (place_in mirror j) (place_in mirror i)
+none_turned positive S listed mirror i j h il jl n = by_sign positive
+  where
+    crossed : (a b : ℕ) → a < length listed → b < length listed → length (row_at listed a) ≡ length (row_at listed b) → HasNoNewSum S listed a b → HasNoNewSum S listed (place_in mirror b) (place_in mirror a)
+    crossed a b al bl m none = λ z s.
+        let t : IsSumOf S listed (negated (row_at listed b)) (negated (row_at listed a)) z =
+        subst₂ (λ (x y : List ℤ). IsSumOf S listed x y z) (h.mirror_is.negative b (omega (arith, bl, h.count))) (h.mirror_is.negative a (omega (arith, al, h.count))) s in
+        none_negated S listed (mirror_closed listed mirror h) (row_at listed a) (row_at listed b) none z
+        (sum_turned S listed (negated (row_at listed b)) (negated (row_at listed a)) z (negated_length (row_at listed b) ∙ sym m ∙ sym (negated_length (row_at listed a))) t)
+
+    by_sign : (p : Bool) → HasNoNewSumBy p S listed i j → HasNoNewSumBy p S listed (place_in mirror j) (place_in mirror i)
+    by_sign true none = crossed i j il jl n none
+    by_sign false none = crossed j i jl il (sym n) none
+
+pub norm_at_mirror : (listed : List (List ℤ)) (mirror : List ℕ) (k : ℕ) → IsMirror listed mirror → k < length mirror → stage_norm (row_at listed (place_in mirror k)) ≡ stage_norm (row_at listed k)
+norm_at_mirror listed mirror k h l = ap stage_norm (h.negative k l) ∙ stage_norm_negated (row_at listed k)
+
+-- the places up to m of those that come in the other order
+pub record AddsTurnedTo (m from to : ℕ) (old new : List ℕ) : Type 0 where
+  pub count : length new ≡ m
+  pub before : (k : ℕ) → k < from → place_in new k ≡ place_in old k
+  pub behind : (k : ℕ) → from ≤ k → k < m → place_in new k ≡ turned_place from to k
+
+pub turned_more : (m from to : ℕ) (old new next : List ℕ) → from ≤ m → AddsTurnedTo m from to old new → next ≡ new ++ (turned_place from to m ∷ []) → AddsTurnedTo (m + 1) from to old next
+turned_more m from to old new next l h e = record {
+  count = omega (arith, ap length e, length-append new (turned_place from to m ∷ []), h.count);
+  before = λ k s. at_old k (omega (arith, s, l)) ∙ h.before k s;
+  behind = λ k f s. elim (cases_lt k m) [
+    | inl b ↦ at_old k b ∙ h.behind k f b
+    | inr n ↦
+        let place : k ≡ length new + 0 = omega (arith, n, s, h.count) in
+        let same : m ≡ k = omega (arith, n, s) in
+        ap (λ (x : List ℕ). get_or x k 0) e ∙ ap (λ (i : ℕ). get_or (new ++ (turned_place from to m ∷ [])) i 0) place ∙ get_or-append-add new (turned_place from to m ∷ []) 0 0 ∙ ap (turned_place from to) same
+  ];
+}
+  where
+    at_old : (k : ℕ) → k < m → place_in next k ≡ place_in new k
+    at_old k b = ap (λ (x : List ℕ). get_or x k 0) e ∙ get_or_append_left new (turned_place from to m ∷ []) 0 k (omega (arith, b, h.count))
+
+-- ---- rows that come with their negatives
+pub no_mirror : (listed : List (List ℤ)) (mirror : List ℕ) → mirror ≡ [] → IsMirror listed mirror
+no_mirror listed mirror e = record {
+  within = omega (arith, ap length e);
+  inside = λ k l. absurd (omega (arith, ap length e, l));
+  back = λ k l. absurd (omega (arith, ap length e, l));
+  negative = λ k l. absurd (omega (arith, ap length e, l));
+}
+
+module _ (listed : List (List ℤ)) (from : ℕ) (old new : List ℕ) (h : IsMirror listed old) (n : length old ≡ from) (within : from ≤ length listed) (negatives : AreNegatives listed from) (adds : AddsTurned from (length listed) old new) where
+  added_inside : (k : ℕ) → k < length new → place_in new k < length new
+  added_inside k l = elim (cases_lt k from) [
+    | inl s ↦ omega (arith, adds.before k s, h.inside k (omega (arith, s, n)), n, adds.count, within)
+    | inr s ↦ omega (arith, adds.behind k s (omega (arith, l, adds.count)), l, s, adds.count)
+  ]
+
+  added_back : (k : ℕ) → k < length new → place_in new (place_in new k) ≡ k
+  added_back k l = elim (cases_lt k from) [
+    | inl s ↦
+        let at : place_in new k ≡ place_in old k = adds.before k s in
+        let low : place_in old k < from = omega (arith, h.inside k (omega (arith, s, n)), n) in
+        ap (place_in new) at ∙ adds.before (place_in old k) low ∙ h.back k (omega (arith, s, n))
+    | inr s ↦
+        let at : place_in new k ≡ turned_place from (length listed) k = adds.behind k s (omega (arith, l, adds.count)) in
+        let up : from ≤ turned_place from (length listed) k = omega (arith, l, adds.count, s) in
+        ap (place_in new) at ∙ adds.behind (turned_place from (length listed) k) up (omega (arith, l, adds.count, s)) ∙ omega (arith, l, adds.count, s)
+  ]
+
+  added_negative : (k : ℕ) → k < length new → row_at listed (place_in new k) ≡ negated (row_at listed k)
+  added_negative k l = elim (cases_lt k from) [
+    | inl s ↦ ap (row_at listed) (adds.before k s) ∙ h.negative k (omega (arith, s, n))
+    | inr s ↦ ap (row_at listed) (adds.behind k s (omega (arith, l, adds.count))) ∙ negatives k s (omega (arith, l, adds.count))
+  ]
+
+  pub turned_to : IsTurnedTo listed from new
+  turned_to = record {
+    whole = record {
+      count = adds.count;
+      mirror_is = record { within = omega (arith, adds.count); inside = added_inside; back = added_back; negative = added_negative };
+    };
+    before = λ k l. omega (arith, adds.before k l, h.inside k (omega (arith, l, n)), n);
+  }

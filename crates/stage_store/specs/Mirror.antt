@@ -10,6 +10,7 @@ place_in mirror k = slice_index_or mirror k 0
 
 -- the mirror gives each place that of the negative of its row
 pub record IsMirror (listed : List (List ℤ)) (mirror : List ℕ) : Type 0 where
+  pub within : length mirror ≤ length listed
   pub inside : (k : ℕ) → k < length mirror → place_in mirror k < length mirror
   pub back : (k : ℕ) → k < length mirror → place_in mirror (place_in mirror k) ≡ k
   pub negative : (k : ℕ) → k < length mirror → row_at listed (place_in mirror k) ≡ negated (row_at listed k)

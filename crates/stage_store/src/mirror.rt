@@ -1,24 +1,32 @@
 //! Negatives of rows. Where each listed row has its negative listed too, a pair and that of the negatives of its rows have
 //! an irreducible sum together or not at all, so one of both is sifted.
 
-ghost use Rattle.std.specs.Prelude.{◌≡◌, ◌+◌, ◌%◌, ◌<◌, ◌≤◌, ◌^◌, length, All, IsTrue, OnOk};
+ghost use Rattle.std.specs.Prelude.{◌≡◌, ◌+◌, ◌%◌, ◌<◌, ◌≤◌, ◌^◌, length, IsTrue, OnOk, neg_ℤ};
 ghost use Rattle.int_vector.specs.Vectors.{negated};
-ghost use Rattle.row_pool.specs.Rows.{InRange};
 ghost use Rattle.stage_store.specs.Mirror.{AreNegatives, AddsTurned, IsTurnedLevels, turned_item, turned_place};
 
 use row_pool::{Pool, RowId};
 use std::alloc::AllocError;
 
+/// Whether a number is the negative of another.
+fn are_opposite(x: i64, y: i64) -> bool
+    ensures { IsTrue result → x ≡ neg_ℤ y }
+{
+    match x.checked_add(y) {
+        Some(sum) => sum == 0,
+        None => false,
+    }
+}
+
 /// Whether a vector is the negative of another.
 fn is_negative(u: &[i64], v: &[i64]) -> bool
-    requires range { All InRange v.now }
     ensures { IsTrue result → u.now ≡ negated v.now }
 {
     if u.len() != v.len() {
         return false;
     }
     for k in 0..u.len() {
-        if u[k] != -v[k] {
+        if !are_opposite(u[k], v[k]) {
             return false;
         }
     }
@@ -61,10 +69,12 @@ pub fn add_turned(mirror: &mut Vec<u32>, from: u32, to: u32) -> Result<(), Alloc
     Ok(())
 }
 
-/// The item of the same column and the other sign.
-fn item_turned(item: usize) -> usize
-    requires { item < 2 ^ 62 }
-    ensures { result ≡ turned_item item }
+/// The item of the same column and the other sign, of so many items.
+fn item_turned(item: usize, count: usize) -> usize
+    requires item { item < count }
+    requires even { count % 2 ≡ 0 }
+    ensures item { result ≡ turned_item item }
+    ensures inside { result < count }
 {
     if item % 2 == 0 { item + 1 } else { item - 1 }
 }
@@ -76,6 +86,6 @@ pub fn fill_turned(levels: &[u8], turned: &mut [u8])
     ensures { IsTurnedLevels levels.now turned.new }
 {
     for k in 0..turned.len() {
-        turned[k] = levels[item_turned(k)];
+        turned[k] = levels[item_turned(k, levels.len())];
     }
 }

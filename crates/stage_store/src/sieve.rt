@@ -91,7 +91,7 @@ fn keep_rows(
     ensures kept { OnOk result (IsKept shelves.new (pair_by positive (stage_norm (row_at listed.now.rows i) + stage_norm (row_at listed.now.rows j)) i j)) }
     ensures turned { OnOk result (i < length mirror.now → j < length mirror.now
         → IsKept shelves.new (pair_by positive (stage_norm (row_at listed.now.rows i) + stage_norm (row_at listed.now.rows j))
-            (place_in mirror.now j) (place_in mirror.now i))) }
+        (place_in mirror.now j) (place_in mirror.now i))) }
 {
     let one = norm_of(listed.row(RowId(i)), width);
     let two = norm_of(listed.row(RowId(j)), width);
@@ -122,6 +122,7 @@ fn sift_group(
     requires reach_count { length reaches.now ≤ length listed.now.rows }
     requires width { listed.now.width ≡ width system.now.equations + 1 }
     requires norms { AreNormed listed.now.rows }
+    requires wide { AreWide (width system.now.equations + 1) listed.now.rows }
     requires mirror { IsWholeOr listed.now.rows mirror.now }
     requires row { i < length reaches.now }
     requires others { AllByRecursion (λ j. j < length reaches.now) others.now }
@@ -364,6 +365,7 @@ impl Sieve {
         requires wide { AreWide (width system.now.equations + 1) listed.now.rows }
         requires held { IsSieve system.now.equations listed.now.rows norm self.old }
         ensures shelves { length self.new.shelves.shelves.items ≡ 256 }
+        ensures reach_count { OnOk result (length self.new.reaches.items ≡ length listed.now.rows) }
         ensures upto { OnOk result (IsSieveTo system.now.equations listed.now.rows norm (length listed.now.rows) self.new) }
     {
         self.renew(alloc, system, listed, norm, next)?;
@@ -518,9 +520,10 @@ impl Sieve {
     {
         let width = system.width() as usize;
         for i in self.rows..listed.len() {
-            if has_sign(listed.row(RowId(i)), width, true) {
-                self.sift_couple(alloc, system, listed, tree, norm, i, room)?;
+            if !has_sign(listed.row(RowId(i)), width, true) {
+                continue;
             }
+            self.sift_couple(alloc, system, listed, tree, norm, i, room)?;
         }
         Ok(())
     }
