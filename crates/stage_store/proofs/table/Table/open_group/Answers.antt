@@ -1,11 +1,11 @@
 -- A group without rows tells nothing, so one more is true of the rows that the table has.
 use Rattle.std.proofs.Common.{sym, subst, length, List, arith}
-use Rattle.stage_store.specs.declared.sieve.Group.{Group}
+use Rattle.stage_store.specs.declared.table.Group.{Group}
 use Rattle.stage_store.specs.Sieve.{AreGroups}
 use Rattle.stage_store.specs.Levels.{BarsLine, ReachesLine}
 use Rattle.stage_store.proofs.LineBits.{tell_nothing}
 use Rattle.stage_store.proofs.Tables.{between_nothing, groups_put}
-use Rattle.stage_store.proofs.sieve.Table.open_group.Goals as goal
+use Rattle.stage_store.proofs.table.Table.open_group.Goals as goal
 
 pub returns-in_ok-push-clause-groups : goal.returns-in_ok-push-clause-groups
 returns-in_ok-push-clause-groups c = λ S listed h.

@@ -3,7 +3,7 @@
 use Rattle.std.proofs.Common.{◌≡◌, ◌+◌, ◌*◌, ◌/◌, ◌%◌, ◌<◌, ℕ, List, set, length, ap, sym, subst, subst₂, arith, ◌++◌, ◌∷◌, []}
 use Rattle.stage_store.specs.Sieve.{AreGroups, IsGroup, IsSized}
 use Rattle.stage_store.proofs.Tables.{groups_set, group_marked}
-use Rattle.stage_store.proofs.sieve.Table.push.Goals as goal
+use Rattle.stage_store.proofs.table.Table.push.Goals as goal
 
 pub returns-clause-groups : goal.returns-clause-groups
 returns-clause-groups c = λ S listed h is above under.
