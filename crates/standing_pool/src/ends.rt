@@ -2,9 +2,10 @@
 
 ghost use Rattle.std.specs.Prelude.{◌≡◌, Err};
 ghost use Rattle.lift_run.specs.declared.ends.RunEnd.TheVariants.{Failed};
-ghost use Rattle.standing_pool.specs.Ends.{run_end_of};
+ghost use Rattle.standing_pool.specs.Ends.{as_run, run_end_of};
 
 use lift_run::{Place, RunEnd};
+use stage_store::Finish;
 use std::alloc::AllocError;
 
 /// Why a run did not finish.
@@ -31,7 +32,7 @@ impl From<AllocError> for StandEnd {
 }
 
 // The end of a run that keeps nothing, so that no Keep fails.
-pub(crate) fn end_standing(end: RunEnd) -> StandEnd
+fn end_standing(end: RunEnd) -> StandEnd
     requires { end ≡ Failed → ⊥ }
     ensures { run_end_of result ≡ end }
 {
@@ -49,5 +50,16 @@ pub(crate) fn end_standing(end: RunEnd) -> StandEnd
         RunEnd::Rows { stage, norm, count } => StandEnd::Rows { stage, norm, count },
         RunEnd::Failed => unreachable!(),
         RunEnd::Memory => StandEnd::Memory,
+    }
+}
+
+/// The answer of a run that keeps nothing.
+pub(crate) fn answer_standing(answer: Result<Finish, RunEnd>) -> Result<Finish, StandEnd>
+    requires { answer ≡ Err Failed → ⊥ }
+    ensures { as_run result ≡ answer }
+{
+    match answer {
+        Ok(finish) => Ok(finish),
+        Err(end) => Err(end_standing(end)),
     }
 }

@@ -118,13 +118,29 @@ fn put_together(
     })
 }
 
-// The one that puts the parts together, with the parts in hand.
+/// What the parts are put together with: the parts in hand, and what makes the search faster.
+#[derive(Drop)]
+pub(crate) struct Tools {
+    parts: Vec<Option<PartRows>>,
+    hints: Hints,
+}
+
+impl Tools {
+    /// For so many workers.
+    pub(crate) fn new(alloc: Global, workers: u32) -> Result<Tools, AllocError> {
+        Ok(Tools {
+            parts: no_parts(alloc, workers)?,
+            hints: Hints::new(alloc)?,
+        })
+    }
+}
+
+// The one that puts the parts together.
 #[derive(Drop)]
 struct Leader<'a, R> {
     rt: &'a R,
     hall: &'a Hall,
-    parts: Vec<Option<PartRows>>,
-    hints: Hints,
+    tools: Tools,
 }
 
 impl<'a, R: Wait> Leader<'a, R> {
@@ -149,14 +165,14 @@ impl<'a, R: Wait> Norms for Leader<'a, R> {
 
     fn sums(&mut self, stage: &Stage, norm: u64) -> Result<Option<Closed>, AllocError> {
         let hall = self.hall;
-        hall.collect(self.rt, &mut self.parts);
+        hall.collect(self.rt, &mut self.tools.parts);
         let closed = put_together(
             hall.alloc,
             stage,
             norm,
             hall.limits.workers,
-            &mut self.parts,
-            &mut self.hints,
+            &mut self.tools.parts,
+            &mut self.tools.hints,
         )?;
         self.tell(stage, &closed)?;
         Ok(Some(closed))
@@ -169,6 +185,7 @@ fn run_team<R: Threads + Wait + Sync, G: Gate + Sync>(
     hall: &Hall,
     gate: &G,
     first: Lifted,
+    tools: Tools,
 ) -> Result<Finish, RunEnd>
     requires { IsLiftedDefined first }
     ensures end { AnswersEnd (bounds hall.now.limits) first result }
@@ -177,12 +194,7 @@ fn run_team<R: Threads + Wait + Sync, G: Gate + Sync>(
     ensures walk { IsComeTo (bounds hall.now.limits) first result }
     ensures sure { result ≡ Err RunEnd.Failed → ⊥ }
 {
-    let mut leader = Leader {
-        rt,
-        hall,
-        parts: no_parts(hall.alloc, hall.limits.workers)?,
-        hints: Hints::new(hall.alloc)?,
-    };
+    let mut leader = Leader { rt, hall, tools };
     run_with(
         rt,
         hall.alloc,
@@ -200,6 +212,7 @@ pub(crate) fn lead<R: Threads + Wait + Sync, G: Gate + Sync>(
     hall: &Hall,
     gate: &G,
     first: Lifted,
+    tools: Tools,
 ) -> Result<Finish, RunEnd>
     requires { IsLiftedDefined first }
     ensures end { AnswersEnd (bounds hall.now.limits) first result }
@@ -208,7 +221,7 @@ pub(crate) fn lead<R: Threads + Wait + Sync, G: Gate + Sync>(
     ensures walk { IsComeTo (bounds hall.now.limits) first result }
     ensures sure { result ≡ Err RunEnd.Failed → ⊥ }
 {
-    let end = run_team(rt, hall, gate, first);
+    let end = run_team(rt, hall, gate, first, tools);
     hall.close(rt);
     end
 }

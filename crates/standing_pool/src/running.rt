@@ -7,9 +7,9 @@ ghost use Rattle.stage_store.specs.Lifted.{IsLiftedDefined};
 ghost use Rattle.lift_run.specs.Runs.{bounds, end_of, AnswersEnd, KeepsSystem, HasAllSolutions};
 ghost use Rattle.standing_pool.specs.Ends.{as_run, IsComeTo, IsComeToFromStart};
 
-use crate::ends::{StandEnd, end_standing};
+use crate::ends::{StandEnd, answer_standing};
 use crate::hall::Hall;
-use crate::leader::lead;
+use crate::leader::{Tools, lead};
 use crate::worker::serve;
 use lift_core::System;
 use lift_run::{Limits, RunEnd};
@@ -26,6 +26,7 @@ fn with_team<R: Threads + Wait + Sync, G: Gate + Sync>(
     hall: &Hall,
     gate: &G,
     first: Lifted,
+    tools: Tools,
 ) -> Result<Finish, RunEnd>
     requires { IsLiftedDefined first }
     ensures end { AnswersEnd (bounds hall.now.limits) first result }
@@ -51,7 +52,7 @@ fn with_team<R: Threads + Wait + Sync, G: Gate + Sync>(
                     hall.leave(rt, i);
                 }
             }
-            lead(rt, hall, gate, first)
+            lead(rt, hall, gate, first, tools)
         },
     )
 }
@@ -84,9 +85,7 @@ pub fn run_standing<R: Threads + Wait + Sync, G: Gate + Sync>(
     ensures walk { IsComeToFromStart (bounds limits) system (as_run result) }
 {
     let first = Stage::first(alloc, system.copy(alloc)?)?;
+    let tools = Tools::new(alloc, limits.workers)?;
     let hall = Hall::new(alloc, system, limits)?;
-    match with_team(rt, &hall, gate, first) {
-        Ok(finish) => Ok(finish),
-        Err(end) => Err(end_standing(end)),
-    }
+    answer_standing(with_team(rt, &hall, gate, first, tools))
 }

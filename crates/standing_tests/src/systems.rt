@@ -27,7 +27,7 @@ pub fn double(alloc: Global) -> Result<System, AllocError> {
 
 /// x = y, and an equation whose products reach the edge of the range.
 pub fn at_the_edge(alloc: Global) -> Result<System, AllocError> {
-    let cells = Vec::from_slice(alloc, &[1, -1, 0, HALF, HALF - 1, 1 - 2 * HALF])?;
+    let cells = Vec::from_slice(alloc, &[1, -1, 0, HALF, HALF - 1, -i64::MAX])?;
     system_of(alloc, 3, cells)
 }
 
