@@ -1,7 +1,6 @@
 -- What passes between the threads is true of the stage of whoever takes it: the lists at a place are the only ones.
-use Rattle.std.proofs.Common.{◌≡◌, ℕ, ◌+◌, ◌≤◌, List, refl, sym, subst, ap}
+use Rattle.std.proofs.Common.{◌≡◌, ℕ, ◌+◌, List, refl, subst}
 use Rattle.std.specs.Prelude.{ℤ}
-use Rattle.int_vector.specs.Vectors.{largest}
 use Rattle.lift_core.specs.Lists.{IsListOf}
 use Rattle.lift_core.specs.PairSums.{IsNewSum}
 use Rattle.lift_core.specs.Stages.{IsNextNorm, norm_cmp}
@@ -10,7 +9,6 @@ use Rattle.lift_core.specs.ToolSystems.{width}
 use Rattle.lift_core.proofs.Unique.{one_listed, one_waiting}
 use Rattle.row_pool.specs.Rows.{PoolValue}
 use Rattle.stage_store.specs.Stage.{StageValue, IsDefined}
-use Rattle.stage_store.specs.Published.{IsClosedNorm}
 use Rattle.stage_store.specs.declared.stage.Closed.{Closed}
 use Rattle.standing_pool.specs.Parts.{IsPartList}
 use Rattle.standing_pool.specs.Standing.{IsPart, IsNews, NewsValue, closed_of}

@@ -1,6 +1,6 @@
 -- The answer of a run with a team, from that of the run over the copied system's first stage.
-use Rattle.std.proofs.Common.{◌≡◌, ℕ, List, length, sym, ◌∙◌, subst, ap, inl, inr}
-use Rattle.std.specs.Prelude.{ℤ, Result, Ok, Err, IfOk, IfSome}
+use Rattle.std.proofs.Common.{◌≡◌, length, sym, subst, inl}
+use Rattle.std.specs.Prelude.{Result, Ok, Err, IfOk, IfSome}
 use Rattle.lift_core.specs.Systems.{ToolSystem}
 use Rattle.lift_core.specs.ToolSystems.{width}
 use Rattle.lift_core.specs.Ends.{RunEnds, IsSolutionList}

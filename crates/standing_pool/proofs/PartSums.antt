@@ -1,5 +1,5 @@
 -- The sums of a part by the numbers of its pairs, and the sums of several parts.
-use Rattle.std.proofs.Common.{◌≡◌, ℕ, ◌+◌, ◌<◌, ◌≤◌, ◌%◌, List, [], ◌∷◌, ◌++◌, length, ap, sym, ◌∙◌, subst, arith, inl, inr, ◌⊎◌, Less, get_or}
+use Rattle.std.proofs.Common.{◌≡◌, ℕ, ◌+◌, ◌<◌, ◌≤◌, ◌%◌, List, [], ◌∷◌, ◌++◌, length, ap, sym, ◌∙◌, subst, arith, inl, inr, ◌⊎◌, Less}
 use Rattle.std.specs.Prelude.{ℤ, ◌↔◌}
 use Rattle.std.specs.List.{Contains}
 use Rattle.std.specs.List.Sorted.{IsStrictlySortedBy}
@@ -14,7 +14,7 @@ use Rattle.lift_core.proofs.Lists.{contains_head, contains_tail, contains_nothin
 use Rattle.stage_store.specs.Stage.{StageValue, IsStage}
 use Rattle.stage_store.specs.Classes.{pairs_of, row_at}
 use Rattle.stage_store.specs.Found.{IsSumOf}
-use Rattle.stage_store.specs.Numbered.{pair_at, IsSumNumbered, GainsNumbered}
+use Rattle.stage_store.specs.Numbered.{pair_at, GainsNumbered}
 use Rattle.stage_store.proofs.Classes.{get_or-default}
 use Rattle.stage_store.proofs.Numbering.{numbered}
 use Rattle.stage_store.proofs.Publish.{one_norm_order}

@@ -1,16 +1,12 @@
 -- The parts of a norm: together they are all its irreducible sums.
-use Rattle.std.proofs.Common.{◌≡◌, ℕ, ◌+◌, ◌<◌, ◌%◌, List, [], length, refl, sym, ◌∙◌, subst, arith, inl, inr, ◌⊎◌}
-use Rattle.std.specs.Prelude.{ℤ, ◌↔◌, slice_index_or}
+use Rattle.std.proofs.Common.{◌≡◌, ℕ, ◌+◌, ◌<◌, ◌%◌, List, [], refl, sym, ◌∙◌, subst}
+use Rattle.std.specs.Prelude.{ℤ}
 use Rattle.std.specs.List.{Contains}
 use Rattle.std.proofs.lemmas.Nat.{mod_below}
-use Rattle.std.proofs.lemmas.List.Elements.{Contains-append_left, Contains-append_right, Contains-append_cases}
-use Rattle.int_vector.specs.Vectors.{lex_cmp, largest}
 use Rattle.int_vector.specs.Operations.{add}
 use Rattle.lift_core.specs.Systems.{LinearSystem}
-use Rattle.lift_core.specs.Stages.{IsPair, stage_norm, norm_cmp}
+use Rattle.lift_core.specs.Stages.{IsPair, stage_norm}
 use Rattle.lift_core.specs.PairSums.{HasSum, IsNewSum}
-use Rattle.lift_core.specs.Lists.{IsListOf}
-use Rattle.lift_core.proofs.Lists.{contains_nothing}
 use Rattle.stage_store.specs.Classes.{row_at}
 use Rattle.stage_store.proofs.Classes.{get_or-default}
 use Rattle.standing_pool.specs.Parts.{IsPartSum, IsInSomePart, PartsAreAll}

@@ -1,5 +1,5 @@
 -- How a run with a standing team ends, in the terms of a run.
-use Rattle.std.specs.Prelude.{◌≡◌, Option, Some, Result, Ok, Err}
+use Rattle.std.specs.Prelude.{◌≡◌, Some, Result, Ok, Err}
 use Rattle.lift_core.specs.Systems.{ToolSystem}
 use Rattle.lift_core.specs.Ends.{Limits as Bounds}
 use Rattle.stage_store.specs.Stage.{StageValue}

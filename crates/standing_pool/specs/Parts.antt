@@ -2,7 +2,7 @@
 use Rattle.std.specs.Prelude.{◌≡◌, ◌↔◌, ℕ, ◌+◌, ◌%◌, ◌<◌, List, [], ℤ, length, slice_index_or}
 use Rattle.int_vector.specs.Operations.{add}
 use Rattle.lift_core.specs.Systems.{LinearSystem}
-use Rattle.lift_core.specs.Stages.{IsPair, IsListed, stage_norm, norm_cmp}
+use Rattle.lift_core.specs.Stages.{IsPair, stage_norm, norm_cmp}
 use Rattle.lift_core.specs.PairSums.{HasSum, IsIrreducible, IsNewSum}
 use Rattle.lift_core.specs.Lists.{IsListOf}
 

@@ -82,10 +82,7 @@ impl Desk {
 }
 
 /// No part of each worker.
-pub(crate) fn no_parts(
-    alloc: Global,
-    workers: u32,
-) -> Result<Vec<Option<PartRows>>, AllocError> {
+pub(crate) fn no_parts(alloc: Global, workers: u32) -> Result<Vec<Option<PartRows>>, AllocError> {
     let mut parts = Vec::with_capacity(alloc, workers as usize)?;
     for _ in 0..workers {
         parts.push(None)?;
@@ -151,7 +148,9 @@ impl Hall {
 
     /// Waits until each worker has put its part or is gone, and takes the parts in exchange for those in hand.
     pub(crate) fn collect<R: Wait>(&self, rt: &R, parts: &mut Vec<Option<PartRows>>) {
-        let mut desk = self.put.wait_while(rt, self.desk.lock(rt), |desk| desk.is_working());
+        let mut desk = self
+            .put
+            .wait_while(rt, self.desk.lock(rt), |desk| desk.is_working());
         mem::swap(&mut desk.parts, parts);
     }
 
@@ -163,7 +162,9 @@ impl Hall {
 
     /// Waits for the norm that follows on a worker's part; nothing where all is over.
     pub(crate) fn listen<R: Wait>(&self, rt: &R, worker: u32) -> Option<Arc<Published, Global>> {
-        let desk = self.told.wait_while(rt, self.desk.lock(rt), |desk| desk.is_waiting(worker));
+        let desk = self
+            .told
+            .wait_while(rt, self.desk.lock(rt), |desk| desk.is_waiting(worker));
         desk.told()
     }
 

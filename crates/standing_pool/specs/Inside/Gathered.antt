@@ -1,11 +1,11 @@
 -- The sums of a part by the numbers of its pairs, and of several parts.
-use Rattle.std.specs.Prelude.{◌≡◌, ◌↔◌, ◌⊎◌, ℕ, ◌%◌, ◌+◌, ◌<◌, ◌≤◌, List, [], ℤ, length, slice_index_or}
+use Rattle.std.specs.Prelude.{◌≡◌, ◌↔◌, ◌⊎◌, ℕ, ◌%◌, ◌+◌, ◌<◌, ◌≤◌, List, ℤ, length}
 use Rattle.std.specs.List.{Contains}
 use Rattle.lift_core.specs.ToolSystems.{width}
 use Rattle.lift_core.specs.Stages.{IsNextNorm}
 use Rattle.row_pool.specs.Rows.{PoolValue}
 use Rattle.stage_store.specs.Stage.{StageValue}
-use Rattle.stage_store.specs.Classes.{pairs_of, row_at}
+use Rattle.stage_store.specs.Classes.{row_at}
 use Rattle.stage_store.specs.Found.{IsSumOf}
 use Rattle.stage_store.specs.Numbered.{pair_at}
 use Rattle.stage_store.specs.Published.{IsClosedNorm}

@@ -1,4 +1,4 @@
-use Rattle.std.proofs.Common.{◌≡◌, ◌∙◌, refl, ap, List, ◌++◌}
+use Rattle.std.proofs.Common.{refl, ap, List}
 use Rattle.std.specs.Prelude.{ℤ}
 use Rattle.standing_pool.proofs.PartSums.{gains_list}
 use Rattle.standing_pool.specs.Parts.{IsPartList}

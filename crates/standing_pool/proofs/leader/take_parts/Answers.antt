@@ -1,6 +1,6 @@
 use Rattle.std.proofs.Common.{◌∙◌, ℕ, arith, subst}
 use Rattle.standing_pool.specs.Inside.Gathered.{AreParts}
-use Rattle.standing_pool.proofs.PartSums.{no_parts_yet, one_part_more}
+use Rattle.standing_pool.proofs.PartSums.{one_part_more}
 use Rattle.standing_pool.proofs.leader.take_parts.Goals as goal
 
 pub loop-i-preserved : goal.loop-i-preserved

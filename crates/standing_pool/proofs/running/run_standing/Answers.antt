@@ -1,6 +1,3 @@
-use Rattle.lift_run.specs.Runs.{IsOfSystem}
-use Rattle.std.specs.Prelude.{IfOk}
-use Rattle.stage_store.specs.Lifted.{IsFirst}
 use Rattle.standing_pool.proofs.Finishing.{of_copy, ends, comes, of_system, system_of, width_of, rows_of}
 use Rattle.standing_pool.proofs.running.run_standing.Goals as goal
 

@@ -1,8 +1,7 @@
-use Rattle.std.proofs.Common.{◌∙◌, ◌+◌, ℕ, arith, ap, subst, sym, length, []}
-use Rattle.stage_store.specs.Classes.{pairs_of}
+use Rattle.std.proofs.Common.{◌∙◌, ℕ, arith, ap, subst, sym, length, []}
 use Rattle.stage_store.proofs.NumberedSums.{written_length}
 use Rattle.standing_pool.specs.Inside.Gathered.{GainsPart}
-use Rattle.standing_pool.proofs.PartSums.{part_nothing, part_more}
+use Rattle.standing_pool.proofs.PartSums.{part_more}
 use Rattle.standing_pool.proofs.sums.gather_part.Goals as goal
 
 pub loop-first-preserved : goal.loop-first-preserved

@@ -1,5 +1,3 @@
-use Rattle.std.proofs.Common.{◌≡◌, ◌∙◌, ℕ, List, ap, arith}
-use Rattle.std.specs.Prelude.{ℤ}
 use Rattle.standing_pool.proofs.PartSums.{part_row, other_row}
 use Rattle.standing_pool.proofs.sums.gather_row.Goals as goal
 

@@ -1,5 +1,4 @@
 use Rattle.stage_store.specs.Stage.{IsDefined}
-use Rattle.std.proofs.Common.{◌≡◌}
 use Rattle.standing_pool.proofs.worker.follow.Given as goal
 
 abbrev pub invariant-loop : goal.invariant-loop

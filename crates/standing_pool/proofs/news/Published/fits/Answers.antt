@@ -1,4 +1,4 @@
-use Rattle.std.proofs.Common.{◌≡◌, ◌∙◌, ap, sym, subst, arith}
+use Rattle.std.proofs.Common.{◌∙◌, sym, subst, arith}
 use Rattle.std.specs.Arc.{arc_value}
 use Rattle.standing_pool.specs.Standing.{NewsValue, closed_of}
 use Rattle.standing_pool.specs.Inside.Gathered.{IsNextClosed}

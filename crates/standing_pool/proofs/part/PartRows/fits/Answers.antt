@@ -1,4 +1,4 @@
-use Rattle.std.proofs.Common.{◌≡◌, ◌∙◌, refl, ap, sym, subst, arith}
+use Rattle.std.proofs.Common.{◌∙◌, refl, ap, sym, subst}
 use Rattle.std.specs.Arc.{arc_value}
 use Rattle.row_pool.specs.Rows.{PoolValue}
 use Rattle.standing_pool.specs.Standing.{PartValue}
