@@ -58,8 +58,8 @@ impl Gate for Meeting {
     fn at(&self, worker: u32, point: Point) {
         let _ = point;
         let (own, other) = self.counts(worker);
-        let calls = own.fetch_add(1, SeqCst) + 1;
-        if calls == 2 && self.held.compare_exchange(0, 1, SeqCst, SeqCst).is_ok() {
+        let calls = own.fetch_add(1, SeqCst);
+        if calls == 1 && self.held.compare_exchange(0, 1, SeqCst, SeqCst).is_ok() {
             self.hold(other);
         }
     }

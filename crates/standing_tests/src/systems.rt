@@ -33,9 +33,9 @@ pub fn at_the_edge(alloc: Global) -> Result<System, AllocError> {
 
 /// x1 + .. + x17 = x18 + .. + x34.
 pub fn balance(alloc: Global) -> Result<System, AllocError> {
-    let mut cells = vec![in alloc; 1; 34]?;
-    for cell in &mut cells[17..] {
-        *cell = -1;
-    }
-    system_of(alloc, 34, cells)
+    let cells = [
+        1, 1, 1, 1, 1, 1, 1, 1, 1, 1, 1, 1, 1, 1, 1, 1, 1, -1, -1, -1, -1, -1, -1, -1, -1, -1, -1,
+        -1, -1, -1, -1, -1, -1, -1,
+    ];
+    system_of(alloc, 34, Vec::from_slice(alloc, &cells)?)
 }
