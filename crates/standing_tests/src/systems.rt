@@ -1,6 +1,6 @@
 //! Systems of `hilbert` over columns of sign 1.
 
-ghost use Rattle.std.specs.Prelude.{◌≡◌, ◌*◌, ◌≤◌, ◌%◌, length, All};
+ghost use Rattle.std.specs.Prelude.{◌≡◌, ◌*◌, ◌≤◌, ◌%◌, length, All, IfOk};
 ghost use Rattle.row_pool.specs.Rows.{InRange};
 
 use lift_core::{System, Tool};
@@ -31,11 +31,26 @@ pub fn at_the_edge(alloc: Global) -> Result<System, AllocError> {
     system_of(alloc, 3, cells)
 }
 
+// A cell of the balance: 1 on its left side, -1 on its right side.
+fn balance_cell(column: u32) -> i64
+    ensures { InRange result }
+{
+    if column < 17 { 1 } else { -1 }
+}
+
+// The cells of the balance.
+fn balance_cells(alloc: Global) -> Result<Vec<i64>, AllocError>
+    ensures count { IfOk result (λ v. length v.items ≡ 34) }
+    ensures range { IfOk result (λ v. All InRange v.items) }
+{
+    let mut cells = Vec::new(alloc);
+    for column in 0..34 {
+        cells.push(balance_cell(column))?;
+    }
+    Ok(cells)
+}
+
 /// x1 + .. + x17 = x18 + .. + x34.
 pub fn balance(alloc: Global) -> Result<System, AllocError> {
-    let cells = [
-        1, 1, 1, 1, 1, 1, 1, 1, 1, 1, 1, 1, 1, 1, 1, 1, 1, -1, -1, -1, -1, -1, -1, -1, -1, -1, -1,
-        -1, -1, -1, -1, -1, -1, -1,
-    ];
-    system_of(alloc, 34, Vec::from_slice(alloc, &cells)?)
+    system_of(alloc, 34, balance_cells(alloc)?)
 }
