@@ -1,0 +1,2 @@
+pub use Rattle.tool_words.specs.Jobs
+pub mod Requests

@@ -1,0 +1,6 @@
+//! The command `stand`: a run of one of the three commands by one team of threads.
+#![tactic(auto)]
+
+mod request;
+
+pub use request::{Request, read_request};
