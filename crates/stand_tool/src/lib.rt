@@ -2,5 +2,7 @@
 #![tactic(auto)]
 
 mod request;
+mod running;
 
 pub use request::{Request, read_request};
+pub use running::run_fresh;
