@@ -1,5 +1,5 @@
 -- Which norms a run closes on its way, and what a Keep has been told of them.
-use Rattle.std.specs.Prelude.{◌≡◌, ◌⊎◌, ℕ, zero, ◌≤◌, List, [], ◌∷◌, length, Option, Some, None, Result, Ok, Err, IfSome, MatchOption}
+use Rattle.std.specs.Prelude.{◌≡◌, ◌⊎◌, ℕ, ◌≤◌, List, [], ◌∷◌, length, Option, Result, Ok, Err, IfSome, MatchOption}
 use Rattle.std.specs.Option.{option_map}
 use Rattle.std.specs.List.{fold}
 use Rattle.outside.specs.Causes.{Rose}
@@ -16,7 +16,7 @@ use Rattle.stage_store.specs.declared.stage.Lifted.TheVariants.{Next, Last}
 use Rattle.lift_run.specs.declared.ends.RunEnd.{RunEnd}
 use Rattle.lift_run.specs.declared.ends.RunEnd.TheVariants.{Failed}
 use Rattle.lift_run.specs.Counts.{closed_norms}
-use Rattle.lift_run.specs.Runs.{StageWalks, end_of, end_of_error}
+use Rattle.lift_run.specs.Runs.{StageWalks, end_of}
 
 -- e is the next norm, it is in range, and its pairs are within the limit
 pub record IsAllowed (limits : Bounds) (s : StageValue) (e : ℕ) : Type 0 where

@@ -8,8 +8,8 @@ use Rattle.lift_core.specs.Ends.{Limits as Bounds}
 use Rattle.stage_store.specs.Stage.{StageValue, IsDefined}
 use Rattle.stage_store.specs.declared.stage.Finish.{Finish}
 use Rattle.lift_run.specs.declared.ends.RunEnd.{RunEnd}
-use Rattle.lift_run.specs.Runs.{end_of_error, StageWalks, IsOfSystem, HasAllSolutions}
-use Rattle.lift_run.specs.Keeps.{IsAllowed, IsClosing, Leads, EndsHere, ComesTo, BreaksOff, TellsTo}
+use Rattle.lift_run.specs.Runs.{end_of_error, IsOfSystem, HasAllSolutions}
+use Rattle.lift_run.specs.Keeps.{IsAllowed, IsClosing, Leads, EndsHere, ComesTo, TellsTo}
 
 -- the next norm, none, or an end that is met at this stage
 abbrev pub AllowsNext : Bounds → StageValue → Result (Option ℕ) RunEnd → Type 0
