@@ -1,7 +1,7 @@
 //! Systems of `hilbert` over columns of sign 1.
 
 ghost use Rattle.std.specs.Prelude.{◌≡◌, ◌*◌, ◌≤◌, ◌%◌, length, All, IfOk};
-ghost use Rattle.row_pool.specs.Rows.{InRange};
+ghost use Rattle.int_vector.specs.Range.{InRange};
 
 use lift_core::{System, Tool};
 use std::alloc::{AllocError, Global};

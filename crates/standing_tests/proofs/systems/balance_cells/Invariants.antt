@@ -1,6 +1,6 @@
 use Rattle.std.proofs.Common.{◌≡◌, length}
 use Rattle.std.specs.Prelude.{All}
-use Rattle.row_pool.specs.Rows.{InRange}
+use Rattle.int_vector.specs.Range.{InRange}
 use Rattle.standing_tests.proofs.systems.balance_cells.Given as goal
 
 abbrev pub invariant-loop-column : goal.invariant-loop-column
