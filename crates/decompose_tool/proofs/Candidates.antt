@@ -11,7 +11,7 @@ use Rattle.lift_core.specs.Columns.{Homogeneous, Inhomogeneous, Every}
 use Rattle.lift_core.proofs.Lists.{contains_cases, contains_head, contains_tail, contains_nothing}
 use Rattle.lift_core.proofs.Systems.{test_same}
 use Rattle.lift_core.proofs.Written.{one_leads_negative}
-use Rattle.system_shape.specs.Problem.{UserSystem, IsX0, full_vector, IsUserSolution, IsMinimalForUser, IsWrittenForUser, IsWantedForUser, IsWantedGraverForUser}
+use Rattle.system_shape.specs.Problem.{UserSystem, IsX0, full_vector, IsUserSolution, IsMinimalForUser, IsMinimalOfKind, IsWantedForUser, IsWantedGraverForUser}
 use Rattle.system_shape.specs.Shape.{has_x0}
 use Rattle.system_files.specs.Kernel.{rows_in}
 use Rattle.system_files.proofs.Negatives.{negated_twice}
@@ -180,15 +180,15 @@ leads_nonzero (pos zero ∷ v) e z = leads_nonzero v e z.1
 leads_nonzero (pos (suc a) ∷ v) e z = cc
 leads_nonzero (negsuc a ∷ v) e z = let f : negsuc a ≡ pos 0 = z.0 in cc
 
-zero_vector : (U : UserSystem) (c : ℤ) (x : List ℤ) → U.x0 ≡ false → IsX0 U.x0 c → c ≡ pos 0
+zero_vector : (U : UserSystem) (c : ℤ) (x : List ℤ) → U.has_x0 ≡ false → IsX0 U.has_x0 c → c ≡ pos 0
 zero_vector U c x e h = subst (λ (b : Bool). IsX0 b c) e h
 
-module _ (U : UserSystem) (none : U.x0 ≡ false) where
+module _ (U : UserSystem) (none : U.has_x0 ≡ false) where
   at_zero : (d : ℤ) (y : List ℤ) → IsMinimalForUser U d y → d ≡ pos 0
-  at_zero d y m = zero_vector U d y none m.solution.x0
+  at_zero d y m = zero_vector U d y none m.solution.factor
 
-  written : (d : ℤ) (y : List ℤ) → IsMinimalForUser U d y → IsWrittenForUser U Every y
-  written d y m = record { times = d; of_kind = tt; minimal = m }
+  written : (d : ℤ) (y : List ℤ) → IsMinimalForUser U d y → IsMinimalOfKind U Every y
+  written d y m = record { c = d; of_kind = tt; minimal = m }
 
   pub hilbert_there : (rows us : List (List ℤ)) → IsWantedForUser U Every rows → AreOfRows Hilbert U (pos 0) rows us → (d : ℤ) (y : List ℤ) → IsMinimalForUser U d y → Contains us (full_vector U d y)
   hilbert_there rows us w h d y m =
@@ -199,9 +199,9 @@ module _ (U : UserSystem) (none : U.x0 ≡ false) where
   graver_there_at : (rows us : List (List ℤ)) → IsWantedGraverForUser U rows → AreOfRows Graver U (pos 0) rows us → (y : List ℤ) → IsMinimalForUser U (pos 0) y → (Contains us (full_vector U (pos 0) y) → ⊥) → ⊥
   graver_there_at rows us w h y m out =
       let not_row : Contains rows y → ⊥ = λ k. out (rows_there Graver U (pos 0) rows y us h k m.nonzero) in
-      let not_negative : IsWrittenForUser U Every (negated y) → ⊥ = λ t.
+      let not_negative : IsMinimalOfKind U Every (negated y) → ⊥ = λ t.
       let leads : leads_negative y ≡ true = is_true (leads_negative y) (λ e. not_row ((w.members y).1 (written (pos 0) y m, λ _ i. let f : leads_negative y ≡ true = i in cc))) in
-      let minimal : IsMinimalForUser U (pos 0) (negated y) = subst (λ (k : ℤ). IsMinimalForUser U k (negated y)) (at_zero t.times (negated y) t.minimal) t.minimal in
+      let minimal : IsMinimalForUser U (pos 0) (negated y) = subst (λ (k : ℤ). IsMinimalForUser U k (negated y)) (at_zero t.c (negated y) t.minimal) t.minimal in
       let row : Contains rows (negated y) = (w.members (negated y)).1 (
         t,
         λ back i.
@@ -220,7 +220,7 @@ module _ (U : UserSystem) (none : U.x0 ≡ false) where
       (not_not us (full_vector U (pos 0) y) (graver_there_at rows us w h y (subst (λ (k : ℤ). IsMinimalForUser U k y) e m)))
 
 -- ---- zsolve has two files
-zero_or_one : (U : UserSystem) (d : ℤ) → U.x0 ≡ true → IsX0 U.x0 d → (d ≡ pos 0) ⊎ (d ≡ pos 1)
+zero_or_one : (U : UserSystem) (d : ℤ) → U.has_x0 ≡ true → IsX0 U.has_x0 d → (d ≡ pos 0) ⊎ (d ≡ pos 1)
 zero_or_one U d e h = between d (subst (λ (b : Bool). IsX0 b d) e h)
   where
     between : (d : ℤ) → (pos 0 ≤ℤ d) × (d ≤ℤ pos 1) → (d ≡ pos 0) ⊎ (d ≡ pos 1)
@@ -229,19 +229,19 @@ zero_or_one U d e h = between d (subst (λ (b : Bool). IsX0 b d) e h)
     between (pos (suc (suc n))) h = absurd (omega (arith, ints, h.1))
     between (negsuc n) h = absurd (omega (arith, ints, h.0))
 
-zsolve_there : (U : UserSystem) (first second us vs : List (List ℤ)) → U.x0 ≡ true → IsWantedForUser U Inhomogeneous first → IsWantedForUser U Homogeneous second →
+zsolve_there : (U : UserSystem) (first second us vs : List (List ℤ)) → U.has_x0 ≡ true → IsWantedForUser U Inhomogeneous first → IsWantedForUser U Homogeneous second →
     AreOfRows Zsolve U (pos 1) first us → AreOfRows Zsolve U (pos 0) second vs → (d : ℤ) (y : List ℤ) → IsMinimalForUser U d y → Contains (us ++ vs) (full_vector U d y)
 zsolve_there U first second us vs e w v h k d y m =
-    elim (zero_or_one U d e m.solution.x0) [
+    elim (zero_or_one U d e m.solution.factor) [
       | inl z ↦ in_second us vs (full_vector U d y)
           (subst (λ (c : ℤ). Contains vs (full_vector U c y)) (sym z)
-          (rows_there Zsolve U (pos 0) second y vs k ((v.members y).1 (record { times = d; of_kind = z; minimal = m })) (subst (λ (c : ℤ). ¬ IsZero (full_vector U c y)) z m.nonzero)))
+          (rows_there Zsolve U (pos 0) second y vs k ((v.members y).1 (record { c = d; of_kind = z; minimal = m })) (subst (λ (c : ℤ). ¬ IsZero (full_vector U c y)) z m.nonzero)))
       | inr o ↦ in_first us vs (full_vector U d y)
           (subst (λ (c : ℤ). Contains us (full_vector U c y)) (sym o)
-          (rows_there Zsolve U (pos 1) first y us h ((w.members y).1 (record { times = d; of_kind = o; minimal = m })) (subst (λ (c : ℤ). ¬ IsZero (full_vector U c y)) o m.nonzero)))
+          (rows_there Zsolve U (pos 1) first y us h ((w.members y).1 (record { c = d; of_kind = o; minimal = m })) (subst (λ (c : ℤ). ¬ IsZero (full_vector U c y)) o m.nonzero)))
     ]
 
-pub all_there : (tool : Tool) (U : UserSystem) (sets : Sets) (us : List (List ℤ)) → U.x0 ≡ has_x0 tool → HoldWanted tool U sets → AreCandidates tool U (set_parts tool sets) us →
+pub all_there : (tool : Tool) (U : UserSystem) (sets : Sets) (us : List (List ℤ)) → U.has_x0 ≡ has_x0 tool → HoldWanted tool U sets → AreCandidates tool U (set_parts tool sets) us →
     (d : ℤ) (y : List ℤ) → IsMinimalForUser U d y → Contains us (full_vector U d y)
 all_there Graver U sets us e w h d y m =
     subst (λ (l : List (List ℤ)). Contains l (full_vector U d y)) (sym h.4) (in_first h.0 h.1 (full_vector U d y) (graver_there U e (rows_in sets.first) h.0 w h.2 d y m))

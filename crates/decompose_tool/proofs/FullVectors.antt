@@ -28,11 +28,11 @@ full_width s c x r h =
     ∙ ap (λ t. width t.equations) (sym r.shaped.is)
 
 -- graver has no right sides
-pub no_x0 : (s : Shaped) → s.system.tool ≡ Graver → (user_of s).x0 ≡ false
+pub no_x0 : (s : Shaped) → s.system.tool ≡ Graver → (user_of s).has_x0 ≡ false
 no_x0 s e = ap has_x0 e
 
 pub zero_times : (s : Shaped) (c : ℤ) (x : List ℤ) → s.system.tool ≡ Graver → IsUserSolution (user_of s) c x → c ≡ pos 0
-zero_times s c x e h = subst (λ (b : Bool). IsX0 b c) (no_x0 s e) h.x0
+zero_times s c x e h = subst (λ (b : Bool). IsX0 b c) (no_x0 s e) h.factor
 
 pub pushed_whole : (old entries new : List ℤ) (b : Bool) → b ≡ true → FillsRows old entries new b → new ≡ old ++ entries
 pushed_whole old entries new true e h = h

@@ -34,11 +34,11 @@ no_entry : (b : Bool) → b ≡ false → x0_entry b (pos 0) ≡ negated (x0_ent
 no_entry true e = cc
 no_entry false e = refl
 
-pub full_negated : (U : UserSystem) (x : List ℤ) → U.x0 ≡ false → full_vector U (pos 0) (negated x) ≡ negated (full_vector U (pos 0) x)
+pub full_negated : (U : UserSystem) (x : List ℤ) → U.has_x0 ≡ false → full_vector U (pos 0) (negated x) ≡ negated (full_vector U (pos 0) x)
 full_negated U x e =
     let d = differences U.rows (pos 0) x in
-    let s = x0_entry U.x0 (pos 0) in
-    ap₂ (λ a b. negated x ++ (a ++ b)) (differences_negated U.rows x) (no_entry U.x0 e)
+    let s = x0_entry U.has_x0 (pos 0) in
+    ap₂ (λ a b. negated x ++ (a ++ b)) (differences_negated U.rows x) (no_entry U.has_x0 e)
     ∙ ap (λ a. negated x ++ a) (sym (map-append neg_ℤ d s))
     ∙ sym (map-append neg_ℤ x (d ++ s))
 
@@ -46,7 +46,7 @@ each_opposite : (rows : List (List ℤ)) (v : List ℤ) → AllByRecursion (λ r
 each_opposite [] v h = tt
 each_opposite (r ∷ rows) v h = (dot-negated r v ∙ ap neg_ℤ h.0, each_opposite rows v h.1)
 
-module _ (U : UserSystem) (well : IsWellFormed U) (e : U.x0 ≡ false) (x : List ℤ) (s : IsUserSolution U (pos 0) x) where
+module _ (U : UserSystem) (well : IsWellFormed U) (e : U.has_x0 ≡ false) (x : List ℤ) (s : IsUserSolution U (pos 0) x) where
   length_is : length (negated x) ≡ length U.signs
   length_is = length-negated_of x ∙ sym (length_all_zip HasSign U.signs x s.solves.signs)
     where
@@ -65,9 +65,9 @@ module _ (U : UserSystem) (well : IsWellFormed U) (e : U.x0 ≡ false) (x : List
   solution_from h =
       let v = full_vector U (pos 0) (negated x) in
       let solves : Solves (linear_system U) (length U.rows) v = subst (Solves (linear_system U) (length U.rows)) (sym (full_negated U x e)) (solves_opposite h) in
-      let t : IsUserSolution U (x0_in U.x0 v) (take (length U.signs) v) = (solution_of U well v solves).0 in
-      let first : take (length U.signs) v ≡ negated x = ap (λ n. take n v) (sym length_is) ∙ take-append_seam (negated x) (differences U.rows (pos 0) (negated x) ++ x0_entry U.x0 (pos 0)) in
-      let none : x0_in U.x0 v ≡ pos 0 = ap (λ b. x0_in b v) e in
+      let t : IsUserSolution U (x0_in U.has_x0 v) (take (length U.signs) v) = (solution_of U well v solves).0 in
+      let first : take (length U.signs) v ≡ negated x = ap (λ n. take n v) (sym length_is) ∙ take-append_seam (negated x) (differences U.rows (pos 0) (negated x) ++ x0_entry U.has_x0 (pos 0)) in
+      let none : x0_in U.has_x0 v ≡ pos 0 = ap (λ b. x0_in b v) e in
       subst₂ (λ (c : ℤ) (y : List ℤ). IsUserSolution U c y) none first t
 
   solution_to : IsUserSolution U (pos 0) (negated x) → Obeys (linear_system U) (negated (full_vector U (pos 0) x))

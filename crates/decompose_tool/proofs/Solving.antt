@@ -43,7 +43,7 @@ module _ (P : List ℤ → Type 0) (closed : IsClosed P) where
 
 module _ (U : UserSystem) (well : IsWellFormed U) where
   solution_member : (d : ℤ) (y : List ℤ) → IsUserSolution U d y → Solves (linear_system U) (length U.rows) (full_vector U d y)
-  solution_member d y s = full_solves U well d y s.x0 s.solves
+  solution_member d y s = full_solves U well d y s.factor s.solves
 
   each_member : (us : List (List ℤ)) → AllByRecursion (λ u. (d : ℤ) × (y : List ℤ) × IsUserSolution U d y × (u ≡ full_vector U d y)) us → AllByRecursion (Solves (linear_system U) (length U.rows)) us
   each_member [] h = tt
@@ -52,7 +52,7 @@ module _ (U : UserSystem) (well : IsWellFormed U) where
   minimal_is_full : (g : List ℤ) → IsMinimal (Solves (linear_system U) (length U.rows)) g → (d : ℤ) × (y : List ℤ) × IsMinimalForUser U d y × (g ≡ full_vector U d y)
   minimal_is_full g m =
       let f = is_full U well g m.member in
-      let s : IsUserSolution U f.0 f.1 = record { x0 = f.2; solves = f.3 } in (
+      let s : IsUserSolution U f.0 f.1 = record { factor = f.2; solves = f.3 } in (
         f.0,
         f.1,
         record {

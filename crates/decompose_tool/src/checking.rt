@@ -191,7 +191,7 @@ fn row_fault(
 ) -> Result<Option<RowFault>, AllocError>
     requires read { IsRead shaped.now }
     requires times { IsTimes times }
-    requires kind { IsX0 (user_of shaped.now).x0 times }
+    requires kind { IsX0 (user_of shaped.now).has_x0 times }
     requires width { length x.now ≡ shaped.now.input.mat.cols }
     ensures { IfOk result (Checks (user_of shaped.now) times x.now) }
 {
@@ -212,7 +212,7 @@ fn row_fault(
 fn check(alloc: Global, shaped: &Shaped, file: DecFile, times: i64, grid: &Grid) -> Result<(), Stop>
     requires read { IsRead shaped.now }
     requires times { IsTimes times }
-    requires kind { IsX0 (user_of shaped.now).x0 times }
+    requires kind { IsX0 (user_of shaped.now).has_x0 times }
     requires width { grid.now.cols ≡ shaped.now.input.mat.cols }
     ensures { ChecksPart (user_of shaped.now)
         (record { file = file; times = times; rows = rows_in grid.now }) result }
@@ -229,7 +229,7 @@ fn check(alloc: Global, shaped: &Shaped, file: DecFile, times: i64, grid: &Grid)
 // Checks the rows of the second file, where there is one.
 fn check_second(alloc: Global, shaped: &Shaped, second: &Option<Grid>) -> Result<(), Stop>
     requires read { IsRead shaped.now }
-    requires kind { IsX0 (user_of shaped.now).x0 (pos 0) }
+    requires kind { IsX0 (user_of shaped.now).has_x0 (pos 0) }
     requires width { IfSome second.now (λ grid. grid.cols ≡ shaped.now.input.mat.cols) }
     ensures { ChecksAll (user_of shaped.now) (second_part second.now) result }
 {

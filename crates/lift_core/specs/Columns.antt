@@ -11,8 +11,9 @@ abbrev pub IsCapped : Option ℕ → ℤ → Type 0
 IsCapped None x = ⊤
 IsCapped (Some c) x = nat_abs x ≤ c
 
--- the solutions of the rows with right side 0, those with the right sides themselves, or both together
-pub data Kind : Type 0 where
-  Homogeneous : Kind
-  Inhomogeneous : Kind
-  Every : Kind
+-- which solutions are asked for: those of the rows with right sides 0, those of the rows with their right sides, or,
+-- in a system that has no right sides, every one
+pub data SolutionKind : Type 0 where
+  Homogeneous : SolutionKind
+  Inhomogeneous : SolutionKind
+  Every : SolutionKind

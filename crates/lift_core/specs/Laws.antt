@@ -8,7 +8,7 @@ use Rattle.lift_core.specs.Stages.{extend, last, stage_norm, IsStageVector, IsSt
 use Rattle.lift_core.specs.PairSums.{IsNewSum}
 use Rattle.lift_core.specs.Inside.Decompositions.{IsDecomposition, IsConformalSum, last_total}
 use Rattle.lift_core.specs.Inside.Units.{IsSignedUnit}
-use Rattle.lift_core.specs.Columns.{Kind}
+use Rattle.lift_core.specs.Columns.{SolutionKind}
 use Rattle.lift_core.specs.Inside.Written.{IsWanted, IsWantedGraver}
 use Rattle.lift_core.specs.Ends.{Limits, End, finished, EndsIn, RunEnds, IsSolutionList}
 use Rattle.lift_core.specs.Walks.{WalkEnds, solutions_in, still_waiting, IsGrown, used_up_to}
@@ -205,7 +205,7 @@ FinishedRun =
 -- at most one list is written
 abbrev pub OneWanted : Type 0
 OneWanted =
-    (S : LinearSystem) (n : ℕ) (kind : Kind) (first second : List (List ℤ))
+    (S : LinearSystem) (n : ℕ) (kind : SolutionKind) (first second : List (List ℤ))
     → IsWanted S n kind first → IsWanted S n kind second → first ≡ second
 
 -- for Graver sets too

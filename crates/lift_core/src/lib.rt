@@ -17,9 +17,9 @@ pub use system::System;
 /// What a system is solved for, after the commands of 4ti2.
 #[derive(Clone, Copy, Debug, PartialEq, Eq, Drop)]
 pub enum Tool {
-    /// The Graver basis: the minimal vectors of a lattice, in the order of Graver (1975).
+    /// The minimal solutions with any sign, in the order of Graver (1975): of a matrix alone, its Graver basis.
     Graver,
-    /// The Hilbert basis: the minimal vectors of a lattice in a cone.
+    /// The minimal solutions with given signs: of a cone, its Hilbert basis.
     Hilbert,
     /// The minimal homogeneous and inhomogeneous solutions of equations and inequalities.
     Zsolve,

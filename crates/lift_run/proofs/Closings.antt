@@ -1,24 +1,23 @@
 -- From defined lists a walk leads through the places of the system: each stage that is closed has the defined lists of its
 -- place, and where an end is met these are all the places that are closed on the way to it.
-use Rattle.std.proofs.Common.{◌≡◌, ℕ, ◌+◌, ◌≤◌, ◌<◌, List, [], ◌∷◌, length, refl, sym, subst, ap, ◌∙◌, arith}
-use Rattle.std.specs.Prelude.{ℤ, Ok, Result}
+use Rattle.std.proofs.Common.{◌≡◌, ℕ, ◌+◌, ◌≤◌, ◌<◌, List, [], length, refl, sym, subst, ap, arith}
+use Rattle.std.specs.Prelude.{ℤ, Ok}
 use Rattle.std.specs.List.{AllByRecursion}
 use Rattle.lift_core.specs.Systems.{LinearSystem, ToolSystem}
-use Rattle.lift_core.specs.Stages.{IsListed, IsWaiting, IsStageList, AreUsed, ArePairsBefore, all_pairs, HasNoNextNorm, IsNextNorm}
+use Rattle.lift_core.specs.Stages.{IsListed, IsWaiting, IsStageList, AreUsed, ArePairsBefore, all_pairs, HasNoNextNorm}
 use Rattle.lift_core.specs.Ends.{Limits, End, ListsAt, EndsIn, by_norm_overflow, by_pairs_spent, by_rows_spent, by_closing, by_row_overflow, by_next_stage, by_finish, IsSolutionList}
-use Rattle.lift_core.specs.Walks.{WalkEnds, walk_norm_overflow, walk_pairs_spent, walk_rows_spent, walk_closing, walk_row_overflow, walk_next_stage, walk_finish, IsGrown, solutions_in, used_up_to}
+use Rattle.lift_core.specs.Walks.{WalkEnds, walk_norm_overflow, walk_pairs_spent, walk_rows_spent, walk_closing, walk_row_overflow, walk_next_stage, walk_finish, IsGrown, solutions_in}
 use Rattle.lift_core.proofs.Growth.{complete}
 use Rattle.lift_core.proofs.Places.{grown_listed, used_next, all_used, solutions_are, nothing_listed, solutions_wait}
 use Rattle.lift_core.proofs.Grown.{grown_exists}
 use Rattle.lift_core.proofs.Walks.{pairs_before_next}
-use Rattle.stage_store.specs.Stage.{StageValue, IsStage, IsDefined, used_of}
-use Rattle.stage_store.specs.Lifted.{IsLift}
+use Rattle.stage_store.specs.Stage.{StageValue, IsDefined, used_of}
 use Rattle.stage_store.specs.declared.stage.Lifted.TheVariants.{Next}
 use Rattle.stage_store.proofs.ClosedNorm.{defined_after}
 use Rattle.stage_store.proofs.Starting.{lift_result_defined}
 use Rattle.lift_run.specs.Counts.{closed_norms}
-use Rattle.lift_run.specs.Keeps.{IsClosing, Leads, leads_nowhere, leads_on, leads_up, EndsHere}
-use Rattle.lift_run.specs.Places.{closed_places, IsStageAt, AreStagesAt}
+use Rattle.lift_run.specs.Keeps.{Leads, leads_nowhere, leads_on, leads_up, EndsHere}
+use Rattle.lift_run.specs.Places.{closed_places, AreStagesAt}
 
 -- ---- an end that is met with no norm closed
 lists : (S : LinearSystem) (k d : ℕ) (listed waiting : List (List ℤ)) → IsListed S k d listed → IsWaiting S k d waiting → ListsAt S k d

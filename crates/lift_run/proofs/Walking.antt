@@ -1,14 +1,14 @@
 -- What each step of a run says: where it leads, what the Keep was told, and that an end of the lists after the step is one of
 -- the lists before it.
-use Rattle.std.proofs.Common.{◌≡◌, ◌⊎◌, inl, inr, ℕ, ◌+◌, ◌-◌, ◌≤◌, ◌<◌, length, List, [], ◌∷◌, ◌++◌, refl, sym, subst, ap, ◌∙◌, arith, add-zero}
-use Rattle.std.specs.Prelude.{Option, Some, None, Result, Ok, Err, IfSome, IsErrAnd, MatchOption}
+use Rattle.std.proofs.Common.{◌≡◌, inl, inr, ℕ, ◌-◌, ◌≤◌, ◌<◌, length, List, [], ◌∷◌, ◌++◌, refl, sym, subst, ap, ◌∙◌, arith, add-zero}
+use Rattle.std.specs.Prelude.{Option, Some, None, Result, Ok, Err, IfSome, IsErrAnd}
 use Rattle.std.specs.Option.{option_map}
-use Rattle.std.specs.List.{fold, AllByRecursion}
+use Rattle.std.specs.List.{fold}
 use Rattle.std.proofs.lemmas.List.Sums.{fold-append}
 use Rattle.lift_core.specs.Systems.{ToolSystem}
 use Rattle.lift_core.specs.ToolSystems.{width}
-use Rattle.lift_core.specs.Stages.{HasNoNextNorm, IsNextNorm, AreUsed}
-use Rattle.lift_core.specs.Ends.{End, norm_overflow, pairs_spent, rows_spent, row_overflow, finished, EndsIn, RunEnds, without_rows, from_stage_one, Limits as Bounds}
+use Rattle.lift_core.specs.Stages.{HasNoNextNorm, IsNextNorm}
+use Rattle.lift_core.specs.Ends.{End, norm_overflow, pairs_spent, rows_spent, EndsIn, RunEnds, without_rows, from_stage_one, Limits as Bounds}
 use Rattle.int_vector.specs.Vectors.{largest}
 use Rattle.lift_core.specs.Walks.{walk_norm_overflow, walk_pairs_spent, walk_rows_spent, walk_closing, walk_row_overflow, walk_next_stage, walk_finish, used_up_to}
 use Rattle.lift_core.proofs.Walks.{walk_ends}
@@ -28,7 +28,7 @@ use Rattle.outside.specs.declared.ends.PutEnd.TheVariants.{Failed}
 use Rattle.outside.specs.declared.ends.PutEnd.TheVariants as put
 use Rattle.lift_run.specs.Lifts.{run_end, run_end_kept}
 use Rattle.lift_run.specs.Runs.{StageWalks, end_of, end_of_error, IsOfSystem, HasAllSolutions, AnswersEnd, KeepsSystem}
-use Rattle.lift_run.specs.Keeps.{IsAllowed, IsClosing, Leads, leads_nowhere, leads_on, leads_up, EndsHere, ComesTo, MayStand, BreaksOff, TellsTo}
+use Rattle.lift_run.specs.Keeps.{IsAllowed, IsClosing, Leads, leads_nowhere, leads_on, leads_up, EndsHere, MayStand, TellsTo}
 use Rattle.lift_run.specs.Inside.Steps.{GoesOn, ClosesNorm, ClosesAll, IsFinished, RunsFrom}
 
 -- what follows for each end follows for the one that is named

@@ -36,5 +36,8 @@ later_waiting S limits (walk_finish none last) = 0
 -- a walk closes at most as many norms as its limit of pairs and the rows that wait in its stages
 abbrev pub NormsAreBounded : Type 0
 NormsAreBounded =
-    (S : LinearSystem) (limits : Limits) (k d used : ℕ) (listed waiting : List (List ℤ)) (end : End) (walk : WalkEnds S limits k d used listed waiting end)
+    (S : LinearSystem) (limits : Limits)
+        (k d used : ℕ)
+        (listed waiting : List (List ℤ)) (end : End)
+        (walk : WalkEnds S limits k d used listed waiting end)
     → closed_norms S limits walk ≤ limits.pairs + (length waiting + later_waiting S limits walk)

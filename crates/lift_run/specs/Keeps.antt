@@ -1,5 +1,5 @@
 -- Which norms a run closes on its way, and what a Keep has been told of them.
-use Rattle.std.specs.Prelude.{◌≡◌, ◌⊎◌, ℕ, zero, ◌≤◌, List, [], ◌∷◌, length, Option, Some, None, Result, Ok, Err, IfSome, MatchOption}
+use Rattle.std.specs.Prelude.{◌≡◌, ◌⊎◌, ℕ, ◌≤◌, List, [], ◌∷◌, length, Option, Result, Ok, Err, IfSome, MatchOption}
 use Rattle.std.specs.Option.{option_map}
 use Rattle.std.specs.List.{fold}
 use Rattle.outside.specs.Causes.{Rose}
@@ -16,7 +16,7 @@ use Rattle.stage_store.specs.declared.stage.Lifted.TheVariants.{Next, Last}
 use Rattle.lift_run.specs.declared.ends.RunEnd.{RunEnd}
 use Rattle.lift_run.specs.declared.ends.RunEnd.TheVariants.{Failed}
 use Rattle.lift_run.specs.Counts.{closed_norms}
-use Rattle.lift_run.specs.Runs.{StageWalks, end_of, end_of_error}
+use Rattle.lift_run.specs.Runs.{StageWalks, end_of}
 
 -- e is the next norm, it is in range, and its pairs are within the limit
 pub record IsAllowed (limits : Bounds) (s : StageValue) (e : ℕ) : Type 0 where
@@ -52,7 +52,9 @@ EndsHere limits s end =
 
 -- ---- what a Keep was told. `after` is the state that follows a kept stage, and `torn` says which may follow a refused one
 -- the walk comes to this end, and the Keep was told of each norm that it closes, in order, each once
-pub record ComesTo {X : Type 0} (after : X → StageValue → X) (limits : Bounds) (s : StageValue) (end : End) (old new : Option X) : Type 0 where
+pub record ComesTo {X : Type 0} (after : X → StageValue → X) (limits : Bounds)
+    (s : StageValue) (end : End) (old new : Option X)
+    : Type 0 where
   pub closed : List StageValue
   pub final : StageValue
   pub leads : Leads limits s closed final
@@ -65,7 +67,8 @@ abbrev pub MayStand :
     → Bounds → StageValue → List StageValue → Option X → Option X → Type 0
 MayStand after torn limits final closed old new =
     (new ≡ option_map (λ x. fold after x closed) old)
-    ⊎ ((t : StageValue) × IsClosing limits final t × IfSome old (λ x. IfSome new (torn (fold after x closed) t)))
+    ⊎ ((t : StageValue) × IsClosing limits final t
+        × IfSome old (λ x. IfSome new (torn (fold after x closed) t)))
 
 -- the walk breaks off: the Keep was told of the first norms that it closes, in order, each once, and a further one may have been refused
 pub record BreaksOff
@@ -81,7 +84,8 @@ abbrev pub TellsTo :
     {X : Type 0} → (X → StageValue → X) → (X → StageValue → X → Type 0)
     → Bounds → StageValue → Option End → Option X → Option X → Type 0
 TellsTo after torn limits s named old new =
-    MatchOption named (BreaksOff after torn limits s old new) (λ end. ComesTo after limits s end old new)
+    MatchOption named (BreaksOff after torn limits s old new)
+        (λ end. ComesTo after limits s end old new)
 
 -- what the Keep was told at an answer of a run; nothing, where the finish was handed in
 abbrev pub TellsKeep :

@@ -1,5 +1,5 @@
 -- The places of the norms that are closed on the way to an end, and the stages that a Keep was told of there.
-use Rattle.std.specs.Prelude.{◌≡◌, ◌⊎◌, ℕ, ◌≤◌, List, [], ◌∷◌, Option, None, Result}
+use Rattle.std.specs.Prelude.{◌≡◌, ◌⊎◌, ℕ, List, [], ◌∷◌, Option, None, Result}
 use Rattle.std.specs.List.{AllZip, AllByRecursion}
 use Rattle.lift_core.specs.Systems.{LinearSystem, ToolSystem}
 use Rattle.lift_core.specs.Ends.{Limits, End, EndsIn, by_norm_overflow, by_pairs_spent, by_rows_spent, by_closing, by_row_overflow, by_next_stage, by_finish}
@@ -41,7 +41,8 @@ LeadsThroughPlaces =
     → IsDefined s
     → Leads limits s closed final
     → EndsHere limits final end
-    → (e : EndsIn s.system.equations limits s.number s.norm end) × AreStagesAt s.system (closed_places s.system.equations limits e) closed
+    → (e : EndsIn s.system.equations limits s.number s.norm end)
+        × AreStagesAt s.system (closed_places s.system.equations limits e) closed
 
 -- from defined lists, each stage that is closed on the way has the defined ones, also where no end is reached
 abbrev pub LeadsThroughDefined : Type 0

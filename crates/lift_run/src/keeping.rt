@@ -32,8 +32,11 @@ pub trait Keep {
     /// # Errors
     /// `Failed` where the count of faults rose, and `Memory` where memory ran out.
     fn norm_closed(&mut self, stage: &Stage) -> Result<(), PutEnd>
-        ensures done { OnOk result (state self.new ≡ option_map (λ s. after s stage.now) (state self.old)) }
-        ensures refused { OnErr result (IfSome (state self.old) (λ s. IfSome (state self.new) (torn s stage.now))) }
+        ensures done { OnOk result
+            (state self.new ≡ option_map (λ s. after s stage.now) (state self.old)) }
+        ensures refused { OnErr result
+            (IfSome (state self.old)
+            (λ s. IfSome (state self.new) (torn s stage.now))) }
         ensures told { is_some (state self.new) ≡ is_some (state self.old) }
         ensures cause { HasCause (faults self.old) (faults self.new) result };
 }

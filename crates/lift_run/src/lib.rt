@@ -10,4 +10,5 @@ mod stages;
 
 pub use ends::{Limits, Place, RunEnd};
 pub use keeping::{Keep, NoKeep};
-pub use stages::{run, run_system};
+pub use norms::Norms;
+pub use stages::{run, run_system, run_with};

@@ -1,6 +1,8 @@
-//! One norm of a stage, worked out by several workers on one board.
+//! How a norm of a stage is worked out: by several workers on one board, or in another way.
 
-ghost use Rattle.std.specs.Prelude.{◌≤◌, ◌^◌, IfOk};
+ghost use Rattle.std.specs.Prelude.{◌≤◌, ◌^◌, IfOk, IfSome, ⊤};
+ghost use Rattle.lift_core.specs.Stages.{IsNextNorm};
+ghost use Rattle.stage_store.specs.Stage.{StageValue};
 ghost use Rattle.stage_store.specs.Published.{IsClosedNorm};
 
 use norm_board::{Board, blocks_of};
@@ -8,6 +10,34 @@ use stage_store::{Closed, Stage};
 use std::alloc::{AllocError, Global};
 use std::thread::Threads;
 use worker_gate::{Gate, run_norm};
+
+/// A way to work out the norms of a run, one after another, other than by workers on one board.
+pub trait Norms {
+    /// What is asked of a stage, besides that the norm is its next one.
+    ghost asks: { StageValue → Type 0 };
+
+    /// The irreducible sums of the stage's next norm, each once, in order; nothing where the norm is left to the board.
+    ///
+    /// # Errors
+    /// Memory ran out.
+    fn sums(&mut self, stage: &Stage, norm: u64) -> Result<Option<Closed>, AllocError>
+        requires asked { asks stage.now }
+        requires next { IsNextNorm stage.now.listed stage.now.waiting stage.now.norm norm }
+        requires small { norm ≤ 9223372036854775807 }
+        ensures { IfOk result (λ sums. IfSome sums (IsClosedNorm stage.now norm)) };
+}
+
+/// Each norm is left to the board.
+#[derive(Drop)]
+pub(crate) struct OnBoard;
+
+impl Norms for OnBoard {
+    ghost asks = { λ _. ⊤ };
+
+    fn sums(&mut self, _stage: &Stage, _norm: u64) -> Result<Option<Closed>, AllocError> {
+        Ok(None)
+    }
+}
 
 /// A second pass and each further one pays for its thread from so many pairs more that are looked at: to start one costs
 /// about as much.
@@ -28,8 +58,8 @@ fn passes_for(pairs: u64, left: u64, workers: u32) -> u32
     }
 }
 
-/// The irreducible sums of a norm, each once, in order.
-pub(crate) fn norm_sums<R: Threads + Sync, G: Gate + Sync>(
+// The irreducible sums of a norm, each once, in order.
+fn norm_sums<R: Threads + Sync, G: Gate + Sync>(
     rt: &R,
     alloc: Global,
     stage: &Stage,
@@ -49,4 +79,27 @@ pub(crate) fn norm_sums<R: Threads + Sync, G: Gate + Sync>(
         return Err(AllocError);
     };
     Ok(closed)
+}
+
+/// The same, in another way where that takes the norm.
+pub(crate) fn sums_by<R: Threads + Sync, G: Gate + Sync, N: Norms>(
+    rt: &R,
+    alloc: Global,
+    stage: &Stage,
+    norm: u64,
+    workers: u32,
+    gate: &G,
+    norms: &mut N,
+) -> Result<Closed, AllocError>
+    requires asked { N.asks stage.now }
+    requires next { IsNextNorm stage.now.listed stage.now.waiting stage.now.norm norm }
+    requires small { norm ≤ 9223372036854775807 }
+    requires some { 1 ≤ workers }
+    requires most { workers ≤ 32 }
+    ensures { IfOk result (IsClosedNorm stage.now norm) }
+{
+    match norms.sums(stage, norm)? {
+        Some(closed) => Ok(closed),
+        None => norm_sums(rt, alloc, stage, norm, workers, gate),
+    }
 }

@@ -18,7 +18,7 @@ use Rattle.lift_core.specs.declared.Tool.TheVariants.{Graver, Hilbert, Zsolve}
 use Rattle.lift_core.specs.Lists.{IsListOf}
 use Rattle.lift_core.specs.Stages.{last}
 use Rattle.int_vector.specs.Vectors.{lex_cmp, leads_negative, negated}
-use Rattle.lift_core.specs.Columns.{Kind, Homogeneous, Inhomogeneous, Every}
+use Rattle.lift_core.specs.Columns.{SolutionKind, Homogeneous, Inhomogeneous, Every}
 use Rattle.lift_core.specs.Kinds.{HasX0}
 use Rattle.lift_core.proofs.Lists.{each_contained, each_from_contained}
 use Rattle.lift_core.proofs.Orders.{in_filter, from_filter, in_map, from_map}
@@ -27,35 +27,35 @@ use Rattle.lift_core.specs.Inside.OrderedRows.{rows_behind, IsOrdered}
 use Rattle.solution_files.specs.Steps.{is_of_kind, projected, AreRows, is_among, is_left_out, without_negatives}
 
 -- ---- the rows of a kind
-home_of_kind : (kind : Kind) (v : List ℤ) → is_of_kind kind v ≡ true → HasX0 kind v
+home_of_kind : (kind : SolutionKind) (v : List ℤ) → is_of_kind kind v ≡ true → HasX0 kind v
 home_of_kind Homogeneous v e = (signed_Decides (last v) (pos 0)).0 e
 home_of_kind Inhomogeneous v e = (signed_Decides (last v) (pos 1)).0 e
 home_of_kind Every v e = tt
 
-kind_of_home : (kind : Kind) (v : List ℤ) → HasX0 kind v → is_of_kind kind v ≡ true
+kind_of_home : (kind : SolutionKind) (v : List ℤ) → HasX0 kind v → is_of_kind kind v ≡ true
 kind_of_home Homogeneous v h = (signed_Decides (last v) (pos 0)).1 h
 kind_of_home Inhomogeneous v h = (signed_Decides (last v) (pos 1)).1 h
 kind_of_home Every v h = refl
 
-not_of_kind : (kind : Kind) (v : List ℤ) → (HasX0 kind v → ⊥) → is_of_kind kind v ≡ false
+not_of_kind : (kind : SolutionKind) (v : List ℤ) → (HasX0 kind v → ⊥) → is_of_kind kind v ≡ false
 not_of_kind kind v other = elim (is_of_kind kind v) as (λ b. is_of_kind kind v ≡ b → is_of_kind kind v ≡ false) [ true ↦ λ e. absurd (other (home_of_kind kind v e)) | false ↦ λ e. e ] refl
 
-in_projected : (finished : List (List ℤ)) (n : ℕ) (kind : Kind) (x : List ℤ) → IsProjected finished n kind x → Contains (projected n kind finished) x
+in_projected : (finished : List (List ℤ)) (n : ℕ) (kind : SolutionKind) (x : List ℤ) → IsProjected finished n kind x → Contains (projected n kind finished) x
 in_projected finished n kind x p =
     subst (Contains (projected n kind finished)) (sym p.is)
     (in_map (take n) (filter (is_of_kind kind) finished) p.solution (in_filter (is_of_kind kind) finished p.solution p.among (kind_of_home kind p.solution p.home)))
 
-from_projected : (finished : List (List ℤ)) (n : ℕ) (kind : Kind) (x : List ℤ) → Contains (projected n kind finished) x → IsProjected finished n kind x
+from_projected : (finished : List (List ℤ)) (n : ℕ) (kind : SolutionKind) (x : List ℤ) → Contains (projected n kind finished) x → IsProjected finished n kind x
 from_projected finished n kind x c =
     let r : (v : List ℤ) × Contains (filter (is_of_kind kind) finished) v × (x ≡ take n v) = from_map (take n) (filter (is_of_kind kind) finished) x c in
     let f : Contains finished r.0 × (is_of_kind kind r.0 ≡ true) = from_filter (is_of_kind kind) finished r.0 r.1 in
     record { solution = r.0; among = f.0; home = home_of_kind kind r.0 f.1; is = r.2 }
 
 -- the rows from a place on: the row at the place, if it is of the kind, and those behind it
-projected_taken : (n : ℕ) (kind : Kind) (row : List ℤ) (rows : List (List ℤ)) → is_of_kind kind row ≡ true → projected n kind (row ∷ rows) ≡ take n row ∷ projected n kind rows
+projected_taken : (n : ℕ) (kind : SolutionKind) (row : List ℤ) (rows : List (List ℤ)) → is_of_kind kind row ≡ true → projected n kind (row ∷ rows) ≡ take n row ∷ projected n kind rows
 projected_taken n kind row rows e = rw e
 
-projected_passed : (n : ℕ) (kind : Kind) (row : List ℤ) (rows : List (List ℤ)) → is_of_kind kind row ≡ false → projected n kind (row ∷ rows) ≡ projected n kind rows
+projected_passed : (n : ℕ) (kind : SolutionKind) (row : List ℤ) (rows : List (List ℤ)) → is_of_kind kind row ≡ false → projected n kind (row ∷ rows) ≡ projected n kind rows
 projected_passed n kind row rows e = rw e
 
 -- ---- rows behind references
@@ -85,7 +85,7 @@ rows_ordered n before after ordered shape =
     each_from_contained (λ r. (length r ≡ n) × AllByRecursion InRange r) after
     (λ x c. each_contained (λ r. (length r ≡ n) × AllByRecursion InRange r) before x shape ((ordered.members x).0 c))
 
-pub one_more_taken : (n : ℕ) (kind : Kind) (finished : List (List ℤ)) (place : ℕ) (row : List ℤ) (refs refs' : List (Bor (List ℤ))) (r : Bor (List ℤ)) (all : List (List ℤ)) → place < length finished → row ≡ get_or finished place [] → HasX0 kind row → r.now ≡ take n row → refs' ≡ refs ++ r ∷ [] →
+pub one_more_taken : (n : ℕ) (kind : SolutionKind) (finished : List (List ℤ)) (place : ℕ) (row : List ℤ) (refs refs' : List (Bor (List ℤ))) (r : Bor (List ℤ)) (all : List (List ℤ)) → place < length finished → row ≡ get_or finished place [] → HasX0 kind row → r.now ≡ take n row → refs' ≡ refs ++ r ∷ [] →
     rows_behind refs ++ projected n kind (drop place finished) ≡ all → rows_behind refs' ++ projected n kind (drop (place + 1) finished) ≡ all
 one_more_taken n kind finished place row refs refs' r all h is e first pushed so_far =
     ap (λ u. u ++ projected n kind (drop (place + 1) finished)) (ap rows_behind pushed ∙ behind_pushed refs r ∙ ap (λ v. rows_behind refs ++ v ∷ []) first)
@@ -93,7 +93,7 @@ one_more_taken n kind finished place row refs refs' r all h is e first pushed so
     ∙ ap (λ u. rows_behind refs ++ u) (sym (projected_taken n kind row (drop (place + 1) finished) (kind_of_home kind row e)) ∙ ap (λ v. projected n kind (v ∷ drop (place + 1) finished)) is ∙ ap (projected n kind) (sym (drop_more finished place [] h)))
     ∙ so_far
 
-pub one_more_passed : (n : ℕ) (kind : Kind) (finished : List (List ℤ)) (place : ℕ) (row : List ℤ) (refs : List (Bor (List ℤ))) (all : List (List ℤ)) → place < length finished → row ≡ get_or finished place [] → (HasX0 kind row → ⊥) →
+pub one_more_passed : (n : ℕ) (kind : SolutionKind) (finished : List (List ℤ)) (place : ℕ) (row : List ℤ) (refs : List (Bor (List ℤ))) (all : List (List ℤ)) → place < length finished → row ≡ get_or finished place [] → (HasX0 kind row → ⊥) →
     rows_behind refs ++ projected n kind (drop place finished) ≡ all → rows_behind refs ++ projected n kind (drop (place + 1) finished) ≡ all
 one_more_passed n kind finished place row refs all h is e so_far =
     ap (λ u. rows_behind refs ++ u) (sym (projected_passed n kind row (drop (place + 1) finished) (not_of_kind kind row e)) ∙ ap (λ v. projected n kind (v ∷ drop (place + 1) finished)) is ∙ ap (projected n kind) (sym (drop_more finished place [] h)))
@@ -136,7 +136,7 @@ not_both true false h a b = cc
 not_both false b h a c = cc
 
 -- ---- the selection
-module _ (finished : List (List ℤ)) (n : ℕ) (kind : Kind) (rows : List (List ℤ)) (ordered : IsOrdered (projected n kind finished) rows) where
+module _ (finished : List (List ℤ)) (n : ℕ) (kind : SolutionKind) (rows : List (List ℤ)) (ordered : IsOrdered (projected n kind finished) rows) where
   taken : (x : List ℤ) → Contains rows x → IsProjected finished n kind x
   taken x c = from_projected finished n kind x ((ordered.members x).0 c)
 
@@ -162,12 +162,12 @@ module _ (finished : List (List ℤ)) (n : ℕ) (kind : Kind) (rows : List (List
           in_filter (stays rows) rows x (is_row x t.0)
           (stays_from (leads_negative x) (is_among rows (negated x)) (λ l a. t.1 (taken (negated x) (contains_from_among rows (negated x) a)) l))
 
-pub selected_plain : (tool : Tool) (finished : List (List ℤ)) (n : ℕ) (kind : Kind) (rows : List (List ℤ)) → (tool ≡ Graver → ⊥) → IsOrdered (projected n kind finished) rows → IsListOf lex_cmp (IsTaken tool finished n kind) rows
+pub selected_plain : (tool : Tool) (finished : List (List ℤ)) (n : ℕ) (kind : SolutionKind) (rows : List (List ℤ)) → (tool ≡ Graver → ⊥) → IsOrdered (projected n kind finished) rows → IsListOf lex_cmp (IsTaken tool finished n kind) rows
 selected_plain Graver finished n kind rows other ordered = absurd (other refl)
 selected_plain Hilbert finished n kind rows other ordered = all_are_selected finished n kind rows ordered
 selected_plain Zsolve finished n kind rows other ordered = all_are_selected finished n kind rows ordered
 
-pub selected_graver : (tool : Tool) (finished : List (List ℤ)) (n : ℕ) (kind : Kind) (rows kept : List (List ℤ)) → tool ≡ Graver → IsOrdered (projected n kind finished) rows → kept ≡ without_negatives rows → IsListOf lex_cmp (IsTaken tool finished n kind) kept
+pub selected_graver : (tool : Tool) (finished : List (List ℤ)) (n : ℕ) (kind : SolutionKind) (rows kept : List (List ℤ)) → tool ≡ Graver → IsOrdered (projected n kind finished) rows → kept ≡ without_negatives rows → IsListOf lex_cmp (IsTaken tool finished n kind) kept
 selected_graver tool finished n kind rows kept is ordered left =
     subst (λ t. IsListOf lex_cmp (IsTaken t finished n kind) kept) (sym is)
     (subst (IsListOf lex_cmp (IsTaken Graver finished n kind)) (sym left) (halves_are_selected finished n kind rows ordered))

@@ -7,7 +7,7 @@ use Rattle.lift_core.specs.Systems.{LinearSystem}
 use Rattle.lift_core.specs.Lists.{IsListOf}
 use Rattle.int_vector.specs.Vectors.{lex_cmp, negated}
 use Rattle.lift_core.specs.Ends.{IsSolutionList}
-use Rattle.lift_core.specs.Columns.{Kind, Every}
+use Rattle.lift_core.specs.Columns.{SolutionKind, Every}
 use Rattle.lift_core.specs.Inside.Written.{IsWrittenOf, IsWanted, IsWantedGraver}
 use Rattle.solution_files.specs.Outputs.{IsProjected, IsTaken}
 
@@ -16,13 +16,13 @@ list_of_both : {X : Type 0} {cmp : _} {P Q : X → Type 0} {xs : List X} → ((x
 list_of_both f g h = record { ascending = h.ascending; members = λ x. (λ c. f x ((h.members x).0 c), λ q. (h.members x).1 (g x q)) }
 
 module _ (S : LinearSystem) (n : ℕ) (finished : List (List ℤ)) (all : IsSolutionList S (length S.rows) finished) where
-  written_from_projected : (kind : Kind) (x : List ℤ) → IsProjected finished n kind x → IsWrittenOf S n kind x
+  written_from_projected : (kind : SolutionKind) (x : List ℤ) → IsProjected finished n kind x → IsWrittenOf S n kind x
   written_from_projected kind x p = record { solution = p.solution; minimal = (all.members p.solution).0 p.among; x0 = p.home; is = p.is }
 
-  projected_from_written : (kind : Kind) (x : List ℤ) → IsWrittenOf S n kind x → IsProjected finished n kind x
+  projected_from_written : (kind : SolutionKind) (x : List ℤ) → IsWrittenOf S n kind x → IsProjected finished n kind x
   projected_from_written kind x w = record { solution = w.solution; among = (all.members w.solution).1 w.minimal; home = w.x0; is = w.is }
 
-  pub wanted_plain : (tool : Tool) (kind : Kind) (rows : List (List ℤ)) → (tool ≡ Graver → ⊥) → IsListOf lex_cmp (IsTaken tool finished n kind) rows → IsWanted S n kind rows
+  pub wanted_plain : (tool : Tool) (kind : SolutionKind) (rows : List (List ℤ)) → (tool ≡ Graver → ⊥) → IsListOf lex_cmp (IsTaken tool finished n kind) rows → IsWanted S n kind rows
   wanted_plain Graver kind rows other h = absurd (other refl)
   wanted_plain Hilbert kind rows other h = list_of_both (written_from_projected kind) (projected_from_written kind) h
   wanted_plain Zsolve kind rows other h = list_of_both (written_from_projected kind) (projected_from_written kind) h

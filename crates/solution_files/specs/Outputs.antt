@@ -16,13 +16,13 @@ use Rattle.solution_files.specs.declared.selection.Kind.{Kind}
 use Rattle.solution_files.specs.declared.selection.Kind.TheVariants.{All, Hom, Inhom}
 
 -- which minimal solutions the rows of a kind come from
-abbrev pub kind_of : Kind → core.Kind
+abbrev pub kind_of : Kind → core.SolutionKind
 kind_of All = Every
 kind_of Hom = Homogeneous
 kind_of Inhom = Inhomogeneous
 
 -- x is the first n entries of a finished row of that kind
-pub record IsProjected (finished : List (List ℤ)) (n : ℕ) (kind : core.Kind) (x : List ℤ)
+pub record IsProjected (finished : List (List ℤ)) (n : ℕ) (kind : core.SolutionKind) (x : List ℤ)
     : Type 0 where
   pub solution : List ℤ
   pub among : Contains finished solution
@@ -30,7 +30,7 @@ pub record IsProjected (finished : List (List ℤ)) (n : ℕ) (kind : core.Kind)
   pub is : x ≡ take n solution
 
 -- these are taken; for Graver sets, of a vector and its negative, where both are there, the one that leads positive
-abbrev pub IsTaken : Tool → List (List ℤ) → ℕ → core.Kind → List ℤ → Type 0
+abbrev pub IsTaken : Tool → List (List ℤ) → ℕ → core.SolutionKind → List ℤ → Type 0
 IsTaken Graver finished n kind x =
     IsProjected finished n kind x
     × (IsProjected finished n kind (negated x) → IsTrue (leads_negative x) → ⊥)

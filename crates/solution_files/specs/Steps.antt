@@ -6,16 +6,16 @@ use Rattle.std.specs.Cmp.Lexicographic.{pointwise}
 use Rattle.int_vector.specs.Range.{InRange}
 use Rattle.lift_core.specs.Stages.{last}
 use Rattle.int_vector.specs.Vectors.{leads_negative, negated}
-use Rattle.lift_core.specs.Columns.{Kind, Homogeneous, Inhomogeneous, Every}
+use Rattle.lift_core.specs.Columns.{SolutionKind, Homogeneous, Inhomogeneous, Every}
 
 -- whether the last entry is that of the kind
-abbrev pub is_of_kind : Kind → List ℤ → Bool
+abbrev pub is_of_kind : SolutionKind → List ℤ → Bool
 is_of_kind Homogeneous v = int_eq (last v) (pos 0)
 is_of_kind Inhomogeneous v = int_eq (last v) (pos 1)
 is_of_kind Every v = true
 
 -- the first n entries of each row of the kind
-abbrev pub projected : ℕ → Kind → List (List ℤ) → List (List ℤ)
+abbrev pub projected : ℕ → SolutionKind → List (List ℤ) → List (List ℤ)
 projected n kind rows = map (take n) (filter (is_of_kind kind) rows)
 
 -- each row has n entries, all in range

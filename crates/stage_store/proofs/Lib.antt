@@ -13,6 +13,7 @@ pub mod Signs
 pub mod LineBits
 pub mod Levels
 pub mod SiftLaws
+pub mod Negatives
 pub mod Closing
 pub mod Used
 pub mod FirstWaiting

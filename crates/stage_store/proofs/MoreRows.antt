@@ -7,7 +7,7 @@ use Rattle.std.proofs.lemmas.List.{take-append-le, get_or_append_left}
 use Rattle.std.proofs.lemmas.List.Elements.{Contains-append_left}
 use Rattle.lift_core.specs.Systems.{LinearSystem}
 use Rattle.lift_core.specs.Stages.{stage_norm, has_positive_last, has_negative_last}
-use Rattle.stage_store.specs.declared.sieve.Table.{Table}
+use Rattle.stage_store.specs.declared.table.Table.{Table}
 use Rattle.stage_store.specs.declared.sieve.Sieve.{Sieve}
 use Rattle.stage_store.specs.Classes.{ClassValue, row_at, places, with_class}
 use Rattle.stage_store.specs.Levels.{BarsLine, ReachesLine, is_plus}
@@ -15,7 +15,9 @@ use Rattle.stage_store.proofs.Levels.{bars_stay}
 use Rattle.stage_store.specs.Found.{IsSumOf}
 use Rattle.stage_store.specs.Shelves.{IsKept}
 use Rattle.stage_store.specs.declared.shelves.Shelves.{Shelves}
-use Rattle.stage_store.specs.Sieve.{HasNoNewSum, IsGroup, IsTable, AreSifted, IsSieveTo, IsSieve, pair_by}
+use Rattle.stage_store.specs.Sieve.{HasNoNewSum, IsGroup, IsTable, IsBefore, AreSifted, IsSieveTo, IsSieve, pair_by}
+use Rattle.stage_store.specs.Mirror.{IsMirror, place_in}
+use Rattle.int_vector.specs.Vectors.{negated}
 use Rattle.stage_store.specs.Reaches.{IsReachOr}
 use Rattle.std.proofs.Common.{◌/◌, ◌%◌}
 use Rattle.stage_store.specs.Stage.{StageValue}
@@ -23,7 +25,6 @@ use Rattle.stage_store.specs.Opened.{AreAscending, AscendWithin, IsAhead}
 use Rattle.stage_store.specs.declared.opened.Opened.{Opened}
 use Rattle.stage_store.proofs.Classes.{each_at}
 use Rattle.stage_store.proofs.Publish.{each_snoc}
-use Rattle.stage_store.proofs.Tables.{inside_table}
 use Rattle.stage_store.proofs.Reaches.{reach_stays}
 
 -- ---- places ascend
@@ -68,13 +69,14 @@ ids_after test b rows cs new n ids h e is = subst AscendWithin (sym is) (go ids 
 row_stays : (listed new : List (List ℤ)) (i : ℕ) → i < length listed → row_at (listed ++ new) i ≡ row_at listed i
 row_stays listed new i l = get_or_append_left listed new [] i l
 
-table_stays : (S : LinearSystem) (listed new : List (List ℤ)) (test : List ℤ → Bool) (n : ℕ) (t : Table) → n ≤ length listed → IsTable S listed test n t → IsTable S (listed ++ new) test n t
+table_stays : (S : LinearSystem) (listed new : List (List ℤ)) (test : List ℤ → Bool) (n : ℕ) (t : Table) → n ≤ length listed → IsTable S listed (IsBefore listed test n) n t
+    → IsTable S (listed ++ new) (IsBefore (listed ++ new) test n) n t
 table_stays S listed new test n t l h =
-    let inside : AllByRecursion (λ i. i < n) t.ids.items = inside_table S listed test n t l h in
-    let same : (k : ℕ) → k < length t.ids.items → row_at (listed ++ new) (get_or t.ids.items k 0) ≡ row_at listed (get_or t.ids.items k 0) =
-    λ k kl. row_stays listed new (get_or t.ids.items k 0) (omega (arith, each_at (λ i. i < n) t.ids.items k 0 inside kl, l)) in
+    let same : (k : ℕ) → k < length t.ids.items → row_at (listed ++ new) (get_or t.ids.items k 0) ≡ row_at listed (get_or t.ids.items k 0) = λ k kl. row_stays listed new (get_or t.ids.items k 0) (h.inside k kl).0 in
     record {
-      ids_are = h.ids_are ∙ ap (places test 0) (sym (take-append-le n listed new l));
+      inside = λ k kl. let x = h.inside k kl in (omega (arith, x.0, length-append listed new), (x.1.0, ap test (same k kl) ∙ x.1.1));
+      whole = λ x xl p. h.whole x (omega (arith, p.0, l)) (p.0, ap test (sym (row_stays listed new x (omega (arith, p.0, l)))) ∙ p.1);
+      few = h.few;
       count = h.count;
       sized = h.sized;
       groups = λ a d k.
@@ -107,18 +109,27 @@ sifted_stays_on S listed new n shelves within h = λ i j il jl p m.
       | inr none ↦ inr (none_stays S listed new i j (omega (arith, il, within)) (omega (arith, jl, within)) none)
     ]
 
+mirror_stays : (listed new : List (List ℤ)) (mirror : List ℕ) → IsMirror listed mirror → IsMirror (listed ++ new) mirror
+mirror_stays listed new mirror h = record {
+  within = omega (arith, h.within, length-append listed new);
+  inside = h.inside;
+  back = h.back;
+  negative = λ k l. row_stays listed new (place_in mirror k) (omega (arith, h.inside k l, h.within)) ∙ h.negative k l ∙ ap negated (sym (row_stays listed new k (omega (arith, l, h.within))));
+}
+
 pub sieve_after : (S : LinearSystem) (listed new : List (List ℤ)) (d e : ℕ) (v : Sieve) → d ≤ e → IsSieve S listed d v → IsSieve S (listed ++ new) e v
 sieve_after S listed new d e v up h =
     let u : IsSieveTo S listed d v.rows v = h.upto in
     record {
       within = omega (arith, h.within, length-append listed new);
+      reach_count = h.reach_count;
       upto = record {
         plus_table = table_stays S listed new has_positive_last v.rows v.plus h.within u.plus_table;
         minus_table = table_stays S listed new has_negative_last v.rows v.minus h.within u.minus_table;
         shelves_are = u.shelves_are;
         closed = omega (arith, u.closed, up);
-        reach_count = u.reach_count;
-        reaches_are = λ k l. subst (λ (row : List ℤ). IsReachOr (listed ++ new) row (get_or v.reaches.items k 0)) (sym (row_stays listed new k (omega (arith, l, u.reach_count, h.within)))) (reach_stays listed new (row_at listed k) (get_or v.reaches.items k 0) (u.reaches_are k l));
+        reaches_are = λ k l. subst (λ (row : List ℤ). IsReachOr (listed ++ new) row (get_or v.reaches.items k 0)) (sym (row_stays listed new k (omega (arith, l, h.reach_count, h.within)))) (reach_stays listed new (row_at listed k) (get_or v.reaches.items k 0) (u.reaches_are k l));
+        mirror_is = mirror_stays listed new v.mirror.items u.mirror_is;
         sifted = sifted_stays_on S listed new v.rows v.shelves h.within u.sifted;
       };
     }

@@ -9,17 +9,19 @@ use Rattle.std.proofs.lemmas.Int.{ints}
 use Rattle.std.proofs.lemmas.List.{length-take-le}
 use Rattle.lift_core.specs.Systems.{LinearSystem}
 use Rattle.lift_core.specs.Stages.{stage_norm, has_positive_last, has_negative_last}
-use Rattle.stage_store.specs.declared.sieve.Group.{Group}
+use Rattle.stage_store.specs.declared.table.Group.{Group}
 use Rattle.lift_core.specs.ToolSystems.{width}
 use Rattle.stage_store.specs.Levels.{MakesNone}
-use Rattle.stage_store.specs.Classes.{row_at, places}
+use Rattle.stage_store.specs.Classes.{row_at}
 use Rattle.stage_store.specs.declared.sieve.Sieve.{Sieve}
-use Rattle.stage_store.specs.declared.sieve.Table.{Table}
+use Rattle.stage_store.specs.declared.table.Table.{Table}
 use Rattle.stage_store.specs.declared.sieve.KeptPair.{KeptPair}
-use Rattle.stage_store.specs.Sieve.{AreSifted, IsTable, IsSieveTo, IsSieve, IsNewSieve, HasNoNewSumBy, IsSiftedBy, AreSiftedBy, AreWide, AreReads, AreBetween, IsGroup, IsSized, IsDead, pair_by}
+use Rattle.stage_store.specs.Sieve.{AreSifted, IsTable, IsBefore, IsTurnedBefore, IsSieveTo, IsSieve, IsNewSieve, AreCoupledTo, HasNewReaches, HasNewMirror, HasNoNewSumBy, IsSiftedBy, AreBothSifted, AreSiftedBy, AreWide, AreReads, AreBetween, IsGroup, IsSized, IsDead, pair_by}
+use Rattle.stage_store.specs.Mirror.{IsMirror, IsWholeMirror, IsWholeOr, IsTurnedTo, place_in}
+use Rattle.stage_store.proofs.Negatives.{none_turned, norm_at_mirror, no_mirror, under_negated, above_negated, negated_twice}
 use Rattle.stage_store.specs.Lines.{Tell, AreMarked}
 use Rattle.stage_store.specs.Levels.{BarsLine, ReachesLine}
-use Rattle.stage_store.proofs.Tables.{has_place, no_table, table_less}
+use Rattle.stage_store.proofs.Tables.{no_table, table_less, table_as, before_more, before_cases}
 use Rattle.std.specs.Prelude.{Result, Ok, Err, OnOk}
 use Rattle.stage_store.specs.Reaches.{AreReaches}
 use Rattle.stage_store.proofs.Classes.{each_at}
@@ -35,6 +37,39 @@ stay_as a = record { same_closed = refl; kept = λ p x. x }
 module _ (positive : Bool) (S : LinearSystem) (listed : List (List ℤ)) where
   pub sifted_stays : (old new : Shelves) (i j : ℕ) → Stay old new → IsSiftedBy positive S listed old i j → IsSiftedBy positive S listed new i j
   sifted_stays old new i j h s = elim s [ inl k ↦ inl (h.kept (pair_by positive _ i j) k) | inr n ↦ inr n ]
+
+-- ---- a pair, and that of the negatives of its rows
+pub as_wide : (n : ℕ) (listed : List (List ℤ)) (i j : ℕ) → AreWide n listed → i < length listed → j < length listed → length (row_at listed i) ≡ length (row_at listed j)
+as_wide n listed i j wide il jl = each_at (λ z. length z ≡ n) listed i [] wide il ∙ sym (each_at (λ z. length z ≡ n) listed j [] wide jl)
+
+not_kept : (positive : Bool) (v : Shelves) (n i j : ℕ) → (n ≤ v.closed) ⊎ (v.horizon ≤ n) → IsKept v (pair_by positive n i j)
+not_kept true v n i j out = λ low high. elim out [ inl l ↦ absurd (omega (arith, l, low)) | inr h ↦ absurd (omega (arith, h, high)) ]
+not_kept false v n i j out = λ low high. elim out [ inl l ↦ absurd (omega (arith, l, low)) | inr h ↦ absurd (omega (arith, h, high)) ]
+
+module _ (positive : Bool) (S : LinearSystem) (listed : List (List ℤ)) (mirror : List ℕ) where
+  pub both_stay : (old new : Shelves) (i j : ℕ) → Stay old new → AreBothSifted positive S listed old mirror i j → AreBothSifted positive S listed new mirror i j
+  both_stay old new i j h s = (sifted_stays positive S listed old new i j h s.0, λ il jl. sifted_stays positive S listed old new (place_in mirror j) (place_in mirror i) h (s.1 il jl))
+
+  module _ (v : Shelves) (i j : ℕ) (whole : IsWholeOr listed mirror) (il : i < length listed) (jl : j < length listed) where
+    pub both_none : length (row_at listed i) ≡ length (row_at listed j) → HasNoNewSumBy positive S listed i j → AreBothSifted positive S listed v mirror i j
+    both_none n none = (inr none, λ im jm. inr (none_turned positive S listed mirror i j (whole (omega (arith, im))) il jl n none))
+
+    turned_norm : i < length mirror → j < length mirror → stage_norm (row_at listed i) + stage_norm (row_at listed j) ≡ stage_norm (row_at listed (place_in mirror j)) + stage_norm (row_at listed (place_in mirror i))
+    turned_norm im jm =
+        let h : IsWholeMirror listed mirror = whole (omega (arith, im)) in
+        omega (arith, norm_at_mirror listed mirror i h.mirror_is im, norm_at_mirror listed mirror j h.mirror_is jm)
+
+    pub both_kept : IsKept v (pair_by positive (stage_norm (row_at listed i) + stage_norm (row_at listed j)) i j)
+        → (i < length mirror → j < length mirror → IsKept v (pair_by positive (stage_norm (row_at listed i) + stage_norm (row_at listed j)) (place_in mirror j) (place_in mirror i))) → AreBothSifted positive S listed v mirror i j
+    both_kept k t = (inl k, λ im jm. inl (subst (λ (n : ℕ). IsKept v (pair_by positive n (place_in mirror j) (place_in mirror i))) (turned_norm im jm) (t im jm)))
+
+    pub both_out : (stage_norm (row_at listed i) + stage_norm (row_at listed j) ≤ v.closed) ⊎ (v.horizon ≤ stage_norm (row_at listed i) + stage_norm (row_at listed j)) → AreBothSifted positive S listed v mirror i j
+    both_out out = both_kept (not_kept positive v (stage_norm (row_at listed i) + stage_norm (row_at listed j)) i j out) (λ im jm. not_kept positive v (stage_norm (row_at listed i) + stage_norm (row_at listed j)) (place_in mirror j) (place_in mirror i) out)
+
+-- a pair that is kept where no refusal came
+pub on_ok_kept : {E : Type 0} (v : Shelves) (p q : KeptPair) (A B : Type 0) (r : Result (Unit {0}) E) → p ≡ q → OnOk r (IsKept v p) → OnOk r (A → B → IsKept v q)
+on_ok_kept v p q A B (Ok u) e h = λ a b. subst (IsKept v) e h
+on_ok_kept v p q A B (Err x) e h = tt
 
 -- ---- rows that bar what another reaches
 module _ (positive : Bool) (S : LinearSystem) (listed : List (List ℤ)) (i j : ℕ) where
@@ -73,15 +108,11 @@ group_has_none positive S listed i a bits ids part bar_reads reach_reads g wide 
 ]
 
 -- ---- norms of which pairs are not kept
-not_kept : (positive : Bool) (v : Shelves) (n i j : ℕ) → (n ≤ v.closed) ⊎ (v.horizon ≤ n) → IsKept v (pair_by positive n i j)
-not_kept true v n i j out = λ low high. elim out [ inl l ↦ absurd (omega (arith, l, low)) | inr h ↦ absurd (omega (arith, h, high)) ]
-not_kept false v n i j out = λ low high. elim out [ inl l ↦ absurd (omega (arith, l, low)) | inr h ↦ absurd (omega (arith, h, high)) ]
-
 -- a group that is passed over
-pub group_out : (positive : Bool) (S : LinearSystem) (listed : List (List ℤ)) (v : Shelves) (i group least most norm : ℕ) (ids : List ℕ) → AreBetween listed ids group least most → norm ≡ stage_norm (row_at listed i)
-    → (norm + most ≤ v.closed) ⊎ (v.horizon ≤ norm + least) → ((k : ℕ) → k < 64 * group → k < length ids → IsSiftedBy positive S listed v i (get_or ids k 0))
-    → (k : ℕ) → k < 64 * (group + 1) → k < length ids → IsSiftedBy positive S listed v i (get_or ids k 0)
-group_out positive S listed v i group least most norm ids norms is out before k l inside = elim (cases_lt k (64 * group)) [
+pub group_out : (positive : Bool) (S : LinearSystem) (listed : List (List ℤ)) (mirror : List ℕ) (v : Shelves) (i group least most norm : ℕ) (ids : List ℕ) → IsWholeOr listed mirror → i < length listed → AllByRecursion (λ j. j < length listed) ids
+    → AreBetween listed ids group least most → norm ≡ stage_norm (row_at listed i) → (norm + most ≤ v.closed) ⊎ (v.horizon ≤ norm + least) → ((k : ℕ) → k < 64 * group → k < length ids → AreBothSifted positive S listed v mirror i (get_or ids k 0))
+    → (k : ℕ) → k < 64 * (group + 1) → k < length ids → AreBothSifted positive S listed v mirror i (get_or ids k 0)
+group_out positive S listed mirror v i group least most norm ids whole il within norms is out before k l inside = elim (cases_lt k (64 * group)) [
   | inl s ↦ before k s inside
   | inr s ↦
       let at : 64 * group + (k - 64 * group) ≡ k = omega (arith, s) in
@@ -89,22 +120,16 @@ group_out positive S listed v i group least most norm ids norms is out before k 
       subst (λ n. (least ≤ stage_norm (row_at listed (get_or ids n 0))) × (stage_norm (row_at listed (get_or ids n 0)) ≤ most)) at (norms (k - 64 * group) (omega (arith, l, s)) (omega (arith, inside, s))) in
       let beyond : (stage_norm (row_at listed i) + stage_norm (row_at listed (get_or ids k 0)) ≤ v.closed) ⊎ (v.horizon ≤ stage_norm (row_at listed i) + stage_norm (row_at listed (get_or ids k 0))) =
       elim out [ inl o ↦ inl (omega (arith, o, t.1, is)) | inr o ↦ inr (omega (arith, o, t.0, is)) ] in
-      inl (not_kept positive v (stage_norm (row_at listed i) + stage_norm (row_at listed (get_or ids k 0))) i (get_or ids k 0) beyond)
+      both_out positive S listed mirror v i (get_or ids k 0) whole il (each_at (λ j. j < length listed) ids k 0 within inside) beyond
 ]
 
 -- ---- the rows of two tables, sifted anew
-module _ (S : LinearSystem) (listed : List (List ℤ)) (n : ℕ) (within : n ≤ length listed) where
-  row_place : (test : List ℤ → Bool) (t : Table) (i : ℕ) → IsTable S listed test n t → i < n → test (row_at listed i) ≡ true → (k : ℕ) × (k < length t.ids.items) × (get_or t.ids.items k 0 ≡ 0 + i)
-  row_place test t i h l passes =
-      let same : get_or (take n listed) i [] ≡ row_at listed i = get_or-take n listed i [] l in
-      subst (λ (ids : List ℕ). (k : ℕ) × (k < length ids) × (get_or ids k 0 ≡ 0 + i)) (sym h.ids_are) (has_place test 0 (take n listed) i (omega (arith, length-take-le n listed within, l)) (ap test same ∙ passes))
-
-  pub sifted_anew : (plus minus : Table) (v : Shelves) → IsTable S listed has_positive_last n plus → IsTable S listed has_negative_last n minus
-      → ((k : ℕ) → k < length plus.ids.items → AreSiftedBy true S listed v (get_or plus.ids.items k 0) minus.ids.items) → AreSifted S listed n v
-  sifted_anew plus minus v p m all = λ i j il jl above under.
-      let a = row_place has_positive_last plus i p il above in
-      let b = row_place has_negative_last minus j m jl under in
-      subst₂ (λ (x y : ℕ). IsSiftedBy true S listed v x y) (a.2 ∙ omega arith) (b.2 ∙ omega arith) (all a.0 a.1 b.0 b.1)
+pub sifted_anew : (S : LinearSystem) (listed : List (List ℤ)) (n : ℕ) (plus minus : Table) (v : Shelves) → n ≤ length listed → IsTable S listed (IsBefore listed has_positive_last n) n plus → IsTable S listed (IsBefore listed has_negative_last n) n minus
+    → ((k : ℕ) → k < length plus.ids.items → AreSiftedBy true S listed v [] (get_or plus.ids.items k 0) minus.ids.items) → AreSifted S listed n v
+sifted_anew S listed n plus minus v within p m all = λ i j il jl above under.
+    let a = p.whole i (omega (arith, il, within)) (il, above) in
+    let b = m.whole j (omega (arith, jl, within)) (jl, under) in
+    subst₂ (λ (x y : ℕ). IsSiftedBy true S listed v x y) a.2 b.2 (all a.0 a.1 b.0 b.1).0
 
 -- what a table tells of the row at a place
 pub marked_reads : (P : List ℤ → ℕ → Type 0) (listed : List (List ℤ)) (ids lines places : List ℕ) (k : ℕ) → Tell P listed ids (k / 64) lines → AreMarked lines (k % 64) places → AreReads (P (row_at listed (get_or ids k 0))) (length lines) places
@@ -117,60 +142,51 @@ marked_reads P listed ids lines places k tell marked = λ a l.
 pub part_at : (n m k : ℕ) (ids : List ℕ) → k < n → get_or (take n (drop m ids)) k 0 ≡ get_or ids (m + k) 0
 part_at n m k ids l = get_or-take n (drop m ids) k 0 l ∙ get_or-drop m ids k 0
 
-pub group_more : (positive : Bool) (S : LinearSystem) (listed : List (List ℤ)) (old new : Shelves) (i group to : ℕ) (ids : List ℕ) → Stay old new → to ≡ min (length ids) (64 * group + 64)
-    → ((k : ℕ) → k < 64 * group → k < length ids → IsSiftedBy positive S listed old i (get_or ids k 0)) → AreSiftedBy positive S listed new i (take (to - 64 * group) (drop (64 * group) ids))
-    → (k : ℕ) → k < 64 * (group + 1) → k < length ids → IsSiftedBy positive S listed new i (get_or ids k 0)
-group_more positive S listed old new i group to ids stay e before here k l inside = elim (cases_lt k (64 * group)) [
-  | inl s ↦ sifted_stays positive S listed old new i (get_or ids k 0) stay (before k s inside)
+pub group_more : (positive : Bool) (S : LinearSystem) (listed : List (List ℤ)) (mirror : List ℕ) (old new : Shelves) (i group to : ℕ) (ids : List ℕ) → Stay old new → to ≡ min (length ids) (64 * group + 64)
+    → ((k : ℕ) → k < 64 * group → k < length ids → AreBothSifted positive S listed old mirror i (get_or ids k 0)) → AreSiftedBy positive S listed new mirror i (take (to - 64 * group) (drop (64 * group) ids))
+    → (k : ℕ) → k < 64 * (group + 1) → k < length ids → AreBothSifted positive S listed new mirror i (get_or ids k 0)
+group_more positive S listed mirror old new i group to ids stay e before here k l inside = elim (cases_lt k (64 * group)) [
+  | inl s ↦ both_stay positive S listed mirror old new i (get_or ids k 0) stay (before k s inside)
   | inr s ↦
       let m : ℕ = k - 64 * group in
       let less : k - 64 * group < to - 64 * group = omega (arith, e, l, inside, s) in
       let len : length (take (to - 64 * group) (drop (64 * group) ids)) ≡ to - 64 * group = length-take-le (to - 64 * group) (drop (64 * group) ids) (omega (arith, length-drop (64 * group) ids, e)) in
       let at : get_or (take (to - 64 * group) (drop (64 * group) ids)) (k - 64 * group) 0 ≡ get_or ids k 0 = part_at (to - 64 * group) (64 * group) (k - 64 * group) ids less ∙ ap (λ n. get_or ids n 0) (omega (arith, s)) in
-      subst (λ j. IsSiftedBy positive S listed new i j) at (here (k - 64 * group) (omega (arith, len, less)))
+      subst (λ j. AreBothSifted positive S listed new mirror i j) at (here (k - 64 * group) (omega (arith, len, less)))
 ]
 
 -- ---- one row more
-module _ (S : LinearSystem) (listed : List (List ℤ)) (i : ℕ) (old new : Shelves) (stay : Stay old new) (inside : i < length listed) (before : AreSifted S listed i old) where
-  -- the place of an earlier row
-  place_before : (test : List ℤ → Bool) (j : ℕ) → j < i → test (row_at listed j) ≡ true → (k : ℕ) × (k < length (places test 0 (take i listed))) × (get_or (places test 0 (take i listed)) k 0 ≡ 0 + j)
-  place_before test j l t =
-      let same : get_or (take i listed) j [] ≡ row_at listed j = get_or-take i listed j [] l in
-      has_place test 0 (take i listed) j (omega (arith, length-take-le i listed (omega (arith, inside)), l)) (ap test same ∙ t)
+not_both : (b : Bool) → b ≡ false → b ≡ true → ⊥
+not_both b e f = let g : true ≡ false = sym f ∙ e in cc
 
+module _ (S : LinearSystem) (listed : List (List ℤ)) (i : ℕ) (old new : Shelves) (stay : Stay old new) (inside : i < length listed) (before : AreSifted S listed i old) where
   turn_round : (j : ℕ) → IsSiftedBy false S listed new i j → IsSiftedBy true S listed new j i
   turn_round j s = elim s [
     | inl k ↦ inl (subst (λ m. IsKept new (pair_by true m j i)) (omega arith) k)
     | inr h ↦ inr h
   ]
 
-  pub sifted_above : has_negative_last (row_at listed i) ≡ false → AreSiftedBy true S listed new i (places has_negative_last 0 (take i listed)) → AreSifted S listed (i + 1) new
-  sifted_above sign here = λ x y xl yl p m. elim (cases_eq y i) [
+  pub sifted_above : (minus : Table) → has_negative_last (row_at listed i) ≡ false → IsTable S listed (IsBefore listed has_negative_last i) i minus → AreSiftedBy true S listed new [] i minus.ids.items → AreSifted S listed (i + 1) new
+  sifted_above minus sign table here = λ x y xl yl p m. elim (cases_eq y i) [
     | inl e ↦ absurd (not_both (has_negative_last (row_at listed i)) sign (subst (λ n. has_negative_last (row_at listed n) ≡ true) e m))
     | inr f ↦ elim (cases_eq x i) [
       | inl e ↦
-          let k = place_before has_negative_last y (omega (arith, yl, f)) m in
-          subst₂ (λ (n o : ℕ). IsSiftedBy true S listed new n o) (sym e) (k.2 ∙ omega arith) (here k.0 k.1)
+          let k = table.whole y (omega (arith, yl, inside)) (omega (arith, yl, f), m) in
+          subst₂ (λ (n o : ℕ). IsSiftedBy true S listed new n o) (sym e) k.2 (here k.0 k.1).0
       | inr e ↦ sifted_stays true S listed old new x y stay (before x y (omega (arith, xl, e)) (omega (arith, yl, f)) p m)
     ]
   ]
-    where
-      not_both : (b : Bool) → b ≡ false → b ≡ true → ⊥
-      not_both b e f = let g : true ≡ false = sym f ∙ e in cc
 
-  pub sifted_under : has_positive_last (row_at listed i) ≡ false → AreSiftedBy false S listed new i (places has_positive_last 0 (take i listed)) → AreSifted S listed (i + 1) new
-  sifted_under sign here = λ x y xl yl p m. elim (cases_eq x i) [
+  pub sifted_under : (plus : Table) → has_positive_last (row_at listed i) ≡ false → IsTable S listed (IsBefore listed has_positive_last i) i plus → AreSiftedBy false S listed new [] i plus.ids.items → AreSifted S listed (i + 1) new
+  sifted_under plus sign table here = λ x y xl yl p m. elim (cases_eq x i) [
     | inl e ↦ absurd (not_both (has_positive_last (row_at listed i)) sign (subst (λ n. has_positive_last (row_at listed n) ≡ true) e p))
     | inr f ↦ elim (cases_eq y i) [
       | inl e ↦
-          let k = place_before has_positive_last x (omega (arith, xl, f)) p in
-          subst (λ n. IsSiftedBy true S listed new x n) (sym e) (turn_round x (subst (λ n. IsSiftedBy false S listed new i n) (k.2 ∙ omega arith) (here k.0 k.1)))
+          let k = table.whole x (omega (arith, xl, inside)) (omega (arith, xl, f), p) in
+          subst (λ n. IsSiftedBy true S listed new x n) (sym e) (turn_round x (subst (λ n. IsSiftedBy false S listed new i n) k.2 (here k.0 k.1).0))
       | inr e ↦ sifted_stays true S listed old new x y stay (before x y (omega (arith, xl, f)) (omega (arith, yl, e)) p m)
     ]
   ]
-    where
-      not_both : (b : Bool) → b ≡ false → b ≡ true → ⊥
-      not_both b e f = let g : true ≡ false = sym f ∙ e in cc
 
   pub sifted_neither : has_positive_last (row_at listed i) ≡ false → has_negative_last (row_at listed i) ≡ false → AreSifted S listed (i + 1) new
   sifted_neither above under = λ x y xl yl p m. elim (cases_eq x i) [
@@ -180,9 +196,6 @@ module _ (S : LinearSystem) (listed : List (List ℤ)) (i : ℕ) (old new : Shel
       | inr e ↦ sifted_stays true S listed old new x y stay (before x y (omega (arith, xl, f)) (omega (arith, yl, e)) p m)
     ]
   ]
-    where
-      not_both : (b : Bool) → b ≡ false → b ≡ true → ⊥
-      not_both b e f = let g : true ≡ false = sym f ∙ e in cc
 
 -- one sign alone
 pub not_negative : (z : List ℤ) → has_positive_last z ≡ true → has_negative_last z ≡ false
@@ -193,91 +206,210 @@ not_positive z p = grind (arith, ints)
 
 -- ---- the sieve with one row more
 module _ {E : Type 0} (S : LinearSystem) (listed : List (List ℤ)) (d i : ℕ) (old v : Sieve) (inside : i < length listed) (h : IsSieveTo S listed d i old) (stay : Stay old.shelves v.shelves)
-    (shelves : length v.shelves.shelves.items ≡ 256) (count : length v.reaches.items ≡ i + 1) (reaches : AreReaches listed v.reaches.items) where
-  pub on_ok_above : (r : Result (Unit {0}) E) → has_positive_last (row_at listed i) ≡ true → v.minus ≡ old.minus → AreSiftedBy true S listed v.shelves i old.minus.ids.items → OnOk r (IsTable S listed has_positive_last (i + 1) v.plus)
+    (shelves : length v.shelves.shelves.items ≡ 256) (reaches : v.reaches ≡ old.reaches) (mirror : v.mirror ≡ old.mirror) where
+  pub on_ok_above : (r : Result (Unit {0}) E) → has_positive_last (row_at listed i) ≡ true → v.minus ≡ old.minus → AreSiftedBy true S listed v.shelves [] i old.minus.ids.items → OnOk r (IsTable S listed (IsBefore listed has_positive_last (i + 1)) (i + 1) v.plus)
       → OnOk r (IsSieveTo S listed d (i + 1) v)
   on_ok_above (Ok u) sign same here table = record {
     plus_table = table;
-    minus_table = subst (IsTable S listed has_negative_last (i + 1)) (sym same) (table_less S listed has_negative_last i old.minus inside (not_negative (row_at listed i) sign) h.minus_table);
+    minus_table = subst (IsTable S listed (IsBefore listed has_negative_last (i + 1)) (i + 1)) (sym same) (table_less S listed has_negative_last i old.minus (not_negative (row_at listed i) sign) h.minus_table);
     shelves_are = shelves;
     closed = omega (arith, stay.same_closed, h.closed);
-    reach_count = count;
-    reaches_are = reaches;
-    sifted = sifted_above S listed i old.shelves v.shelves stay inside h.sifted (not_negative (row_at listed i) sign)
-        (subst (λ ids. AreSiftedBy true S listed v.shelves i ids) h.minus_table.ids_are here);
+    reaches_are = subst (λ r. AreReaches listed r.items) (sym reaches) h.reaches_are;
+    mirror_is = subst (λ m. IsMirror listed m.items) (sym mirror) h.mirror_is;
+    sifted = sifted_above S listed i old.shelves v.shelves stay inside h.sifted old.minus (not_negative (row_at listed i) sign) h.minus_table here;
   }
   on_ok_above (Err x) sign same here table = tt
 
-  pub on_ok_under : (r : Result (Unit {0}) E) → has_negative_last (row_at listed i) ≡ true → v.plus ≡ old.plus → AreSiftedBy false S listed v.shelves i old.plus.ids.items → OnOk r (IsTable S listed has_negative_last (i + 1) v.minus)
+  pub on_ok_under : (r : Result (Unit {0}) E) → has_negative_last (row_at listed i) ≡ true → v.plus ≡ old.plus → AreSiftedBy false S listed v.shelves [] i old.plus.ids.items → OnOk r (IsTable S listed (IsBefore listed has_negative_last (i + 1)) (i + 1) v.minus)
       → OnOk r (IsSieveTo S listed d (i + 1) v)
   on_ok_under (Ok u) sign same here table = record {
-    plus_table = subst (IsTable S listed has_positive_last (i + 1)) (sym same) (table_less S listed has_positive_last i old.plus inside (not_positive (row_at listed i) sign) h.plus_table);
+    plus_table = subst (IsTable S listed (IsBefore listed has_positive_last (i + 1)) (i + 1)) (sym same) (table_less S listed has_positive_last i old.plus (not_positive (row_at listed i) sign) h.plus_table);
     minus_table = table;
     shelves_are = shelves;
     closed = omega (arith, stay.same_closed, h.closed);
-    reach_count = count;
-    reaches_are = reaches;
-    sifted = sifted_under S listed i old.shelves v.shelves stay inside h.sifted (not_positive (row_at listed i) sign)
-        (subst (λ ids. AreSiftedBy false S listed v.shelves i ids) h.plus_table.ids_are here);
+    reaches_are = subst (λ r. AreReaches listed r.items) (sym reaches) h.reaches_are;
+    mirror_is = subst (λ m. IsMirror listed m.items) (sym mirror) h.mirror_is;
+    sifted = sifted_under S listed i old.shelves v.shelves stay inside h.sifted old.plus (not_positive (row_at listed i) sign) h.plus_table here;
   }
   on_ok_under (Err x) sign same here table = tt
 
-module _ (S : LinearSystem) (listed : List (List ℤ)) (d i : ℕ) (old v : Sieve) (inside : i < length listed) (h : IsSieveTo S listed d i old) (stay : Stay old.shelves v.shelves)
-    (shelves : length v.shelves.shelves.items ≡ 256) (count : length v.reaches.items ≡ i + 1) (reaches : AreReaches listed v.reaches.items) where
-  pub sieve_neither : has_positive_last (row_at listed i) ≡ false → has_negative_last (row_at listed i) ≡ false → v.plus ≡ old.plus → v.minus ≡ old.minus → IsSieveTo S listed d (i + 1) v
-  sieve_neither above under p m = record {
-    plus_table = subst (IsTable S listed has_positive_last (i + 1)) (sym p) (table_less S listed has_positive_last i old.plus inside above h.plus_table);
-    minus_table = subst (IsTable S listed has_negative_last (i + 1)) (sym m) (table_less S listed has_negative_last i old.minus inside under h.minus_table);
-    shelves_are = shelves;
-    closed = omega (arith, stay.same_closed, h.closed);
-    reach_count = count;
-    reaches_are = reaches;
-    sifted = sifted_neither S listed i old.shelves v.shelves stay inside h.sifted above under;
+pub sieve_neither : (S : LinearSystem) (listed : List (List ℤ)) (d i : ℕ) (v : Sieve) → i < length listed → IsSieveTo S listed d i v → has_positive_last (row_at listed i) ≡ false → has_negative_last (row_at listed i) ≡ false → IsSieveTo S listed d (i + 1) v
+sieve_neither S listed d i v inside h above under = record {
+  plus_table = table_less S listed has_positive_last i v.plus above h.plus_table;
+  minus_table = table_less S listed has_negative_last i v.minus under h.minus_table;
+  shelves_are = h.shelves_are;
+  closed = h.closed;
+  reaches_are = h.reaches_are;
+  mirror_is = h.mirror_is;
+  sifted = sifted_neither S listed i v.shelves v.shelves (stay_as v.shelves) inside h.sifted above under;
+}
+
+-- ---- a row and its negative
+-- the rows whose negatives were before the first n are those themselves
+module _ (S : LinearSystem) (listed : List (List ℤ)) (d n : ℕ) (v : Sieve) (turned : IsTurnedTo listed n v.mirror.items) (within : n ≤ length listed) where
+  turned_first : (x : ℕ) → x < length listed → place_in v.mirror.items x < n → x < n
+  turned_first x xl l =
+      let back : place_in v.mirror.items (place_in v.mirror.items x) ≡ x = turned.whole.mirror_is.back x (omega (arith, xl, turned.whole.count)) in
+      omega (arith, back, turned.before (place_in v.mirror.items x) l)
+
+  pub couples_begin : IsSieveTo S listed d n v → AreCoupledTo S listed d n v
+  couples_begin h = record {
+    plus_table = h.plus_table;
+    minus_table = table_as S listed (IsBefore listed has_negative_last n) (IsTurnedBefore listed v.mirror.items n) n n v.minus (omega arith)
+        (λ x xl p. (turned.before x p.0, p.1)) (λ x xl q. (turned_first x xl q.0, q.1)) h.minus_table;
+    shelves_are = h.shelves_are;
+    closed = h.closed;
+    reaches_are = h.reaches_are;
+    whole = turned.whole;
+    sifted = λ i j il jl p q. h.sifted i j p.0 (turned_first j jl q.0) p.1 q.1;
   }
 
+pub couples_end : (S : LinearSystem) (listed : List (List ℤ)) (d : ℕ) (v : Sieve) → AreCoupledTo S listed d (length listed) v → IsSieveTo S listed d (length listed) v
+couples_end S listed d v h = record {
+  plus_table = h.plus_table;
+  minus_table = table_as S listed (IsTurnedBefore listed v.mirror.items (length listed)) (IsBefore listed has_negative_last (length listed)) (length listed) (length listed) v.minus (omega arith)
+      (λ x xl p. (xl, p.1)) (λ x xl q. (inside x xl, q.1)) h.minus_table;
+  shelves_are = h.shelves_are;
+  closed = h.closed;
+  reaches_are = h.reaches_are;
+  mirror_is = h.whole.mirror_is;
+  sifted = λ i j il jl p m. h.sifted i j il jl (il, p) (inside j jl, m);
+}
+  where
+    inside : (x : ℕ) → x < length listed → place_in v.mirror.items x < length listed
+    inside x xl = omega (arith, h.whole.count, h.whole.mirror_is.inside x (omega (arith, xl, h.whole.count)))
+
+module _ (S : LinearSystem) (listed : List (List ℤ)) (mirror : List ℕ) (whole : IsWholeMirror listed mirror) (i : ℕ) (inside : i < length listed) where
+  pub turned_cases : (x : ℕ) → x < length listed → IsTurnedBefore listed mirror (i + 1) x → IsTurnedBefore listed mirror i x ⊎ (x ≡ place_in mirror i)
+  turned_cases x xl q = elim (cases_eq (place_in mirror x) i) [
+    | inl e ↦ inr (sym (whole.mirror_is.back x (omega (arith, xl, whole.count))) ∙ ap (place_in mirror) e)
+    | inr f ↦ inl (omega (arith, q.0, f), q.1)
+  ]
+
+  pub turned_here : has_positive_last (row_at listed i) ≡ true → IsTurnedBefore listed mirror (i + 1) (place_in mirror i)
+  turned_here sign = (
+    omega (arith, whole.mirror_is.back i (omega (arith, inside, whole.count))),
+    ap has_negative_last (whole.mirror_is.negative i (omega (arith, inside, whole.count))) ∙ under_negated (row_at listed i) sign,
+  )
+
+  -- the negative of a row with last entry below 0
+  pub above_turned : (x : ℕ) → x < length listed → place_in mirror x ≡ i → has_negative_last (row_at listed x) ≡ true → has_positive_last (row_at listed i) ≡ true
+  above_turned x xl e m = subst (λ (y : ℕ). has_positive_last (row_at listed y) ≡ true) e (ap has_positive_last (whole.mirror_is.negative x (omega (arith, xl, whole.count))) ∙ above_negated (row_at listed x) m)
+
+  module _ (d : ℕ) (v : Sieve) (same : v.mirror.items ≡ mirror) where
+    pub couple_none : AreCoupledTo S listed d i v → has_positive_last (row_at listed i) ≡ false → AreCoupledTo S listed d (i + 1) v
+    couple_none h sign = record {
+      plus_table = table_less S listed has_positive_last i v.plus sign h.plus_table;
+      minus_table = table_as S listed (IsTurnedBefore listed v.mirror.items i) (IsTurnedBefore listed v.mirror.items (i + 1)) i (i + 1) v.minus (omega arith) (λ x xl p. (omega (arith, p.0), p.1)) (λ x xl q. fewer x xl q) h.minus_table;
+      shelves_are = h.shelves_are;
+      closed = h.closed;
+      reaches_are = h.reaches_are;
+      whole = h.whole;
+      sifted = λ x y xl yl p q. elim (before_cases S listed has_positive_last i x p) [
+        | inl b ↦ h.sifted x y xl yl b (fewer y yl q)
+        | inr e ↦ absurd (not_both (has_positive_last (row_at listed i)) sign (subst (λ (z : ℕ). has_positive_last (row_at listed z) ≡ true) e p.1))
+      ];
+    }
+      where
+        fewer : (x : ℕ) → x < length listed → IsTurnedBefore listed v.mirror.items (i + 1) x → IsTurnedBefore listed v.mirror.items i x
+        fewer x xl q = elim (cases_eq (place_in v.mirror.items x) i) [
+          | inl e ↦ absurd (not_both (has_positive_last (row_at listed i)) sign (above_turned x xl (ap (λ (m : List ℕ). place_in m x) (sym same) ∙ e) q.1))
+          | inr f ↦ (omega (arith, q.0, f), q.1)
+        ]
+
+-- a row and its negative more
+module _ (S : LinearSystem) (listed : List (List ℤ)) (d i : ℕ) (old v : Sieve) (inside : i < length listed) (sign : has_positive_last (row_at listed i) ≡ true) (h : AreCoupledTo S listed d i old)
+    (stay : Stay old.shelves v.shelves) (shelves : length v.shelves.shelves.items ≡ 256) (reaches : v.reaches ≡ old.reaches) (mirror : v.mirror ≡ old.mirror) where
+  couple_sifted : AreSiftedBy true S listed v.shelves old.mirror.items i old.minus.ids.items → IsSiftedBy true S listed v.shelves i (place_in old.mirror.items i)
+      → (x y : ℕ) → x < length listed → y < length listed → IsBefore listed has_positive_last (i + 1) x → IsTurnedBefore listed old.mirror.items (i + 1) y → IsSiftedBy true S listed v.shelves x y
+  couple_sifted here own x y xl yl p q = elim (before_cases S listed has_positive_last i x p) [
+    | inl b ↦ elim (turned_cases S listed old.mirror.items h.whole i inside y yl q) [
+      | inl c ↦ sifted_stays true S listed old.shelves v.shelves x y stay (h.sifted x y xl yl b c)
+      | inr e ↦
+          let mx : x < length old.mirror.items = omega (arith, xl, h.whole.count) in
+          let ol : place_in old.mirror.items x < length old.mirror.items = h.whole.mirror_is.inside x mx in
+          let back : place_in old.mirror.items (place_in old.mirror.items x) ≡ x = h.whole.mirror_is.back x mx in
+          let under : has_negative_last (row_at listed (place_in old.mirror.items x)) ≡ true = ap has_negative_last (h.whole.mirror_is.negative x mx) ∙ under_negated (row_at listed x) b.1 in
+          let k = h.minus_table.whole (place_in old.mirror.items x) (omega (arith, ol, h.whole.count)) (omega (arith, back, b.0), under) in
+          let both : AreBothSifted true S listed v.shelves old.mirror.items i (place_in old.mirror.items x) = subst (λ (z : ℕ). AreBothSifted true S listed v.shelves old.mirror.items i z) k.2 (here k.0 k.1) in
+          subst₂ (λ (a b : ℕ). IsSiftedBy true S listed v.shelves a b) back (sym e) (both.1 (omega (arith, inside, h.whole.count)) ol)
+    ]
+    | inr e ↦ elim (turned_cases S listed old.mirror.items h.whole i inside y yl q) [
+      | inl c ↦
+          let k = h.minus_table.whole y yl c in
+          subst₂ (λ (a b : ℕ). IsSiftedBy true S listed v.shelves a b) (sym e) k.2 (here k.0 k.1).0
+      | inr f ↦ subst₂ (λ (a b : ℕ). IsSiftedBy true S listed v.shelves a b) (sym e) (sym f) own
+    ]
+  ]
+
+  pub on_ok_couple : {E : Type 0} (r : Result (Unit {0}) E) → AreSiftedBy true S listed v.shelves old.mirror.items i old.minus.ids.items → IsSiftedBy true S listed v.shelves i (place_in old.mirror.items i)
+      → IsTable S listed (IsBefore listed has_positive_last (i + 1)) (i + 1) v.plus → OnOk r (IsTable S listed (IsTurnedBefore listed old.mirror.items (i + 1)) (i + 1) v.minus) → OnOk r (AreCoupledTo S listed d (i + 1) v)
+  on_ok_couple (Ok u) here own plus minus = record {
+    plus_table = plus;
+    minus_table = subst (λ m. IsTable S listed (IsTurnedBefore listed m.items (i + 1)) (i + 1) v.minus) (sym mirror) minus;
+    shelves_are = shelves;
+    closed = omega (arith, stay.same_closed, h.closed);
+    reaches_are = subst (λ r. AreReaches listed r.items) (sym reaches) h.reaches_are;
+    whole = subst (λ m. IsWholeMirror listed m.items) (sym mirror) h.whole;
+    sifted = λ x y xl yl p q. couple_sifted here own x y xl yl p (subst (λ m. IsTurnedBefore listed m.items (i + 1) y) mirror q);
+  }
+  on_ok_couple (Err x) here own plus minus = tt
+
+-- ---- no row yet, and the same rows
 pub new_sieve : (S : LinearSystem) (listed : List (List ℤ)) (d : ℕ) (v : Sieve) → IsNewSieve v → IsSieve S listed d v
 new_sieve S listed d v h = record {
   within = omega (arith, h.none);
+  reach_count = omega (arith, ap length h.no_reaches, h.none);
   upto = record {
-    plus_table = no_table S listed has_positive_last v.rows v.plus h.none h.plus_ids h.plus_groups;
-    minus_table = no_table S listed has_negative_last v.rows v.minus h.none h.minus_ids h.minus_groups;
+    plus_table = no_table S listed (IsBefore listed has_positive_last v.rows) v.rows v.plus (λ x p. omega (arith, p.0, h.none)) h.plus_ids h.plus_groups;
+    minus_table = no_table S listed (IsBefore listed has_negative_last v.rows) v.rows v.minus (λ x p. omega (arith, p.0, h.none)) h.minus_ids h.minus_groups;
     shelves_are = h.shelves_are;
     closed = omega (arith, h.none_closed);
-    reach_count = omega (arith, ap length h.no_reaches, h.none);
     reaches_are = λ k l. absurd (omega (arith, ap length h.no_reaches, l));
+    mirror_is = no_mirror listed v.mirror.items h.no_mirror;
     sifted = λ i j l. absurd (omega (arith, h.none, l));
   };
 }
 
--- a norm that is closed
-pub closed_sieve : (S : LinearSystem) (listed : List (List ℤ)) (d : ℕ) (old v : Sieve) → v.rows ≡ old.rows → v.reaches ≡ old.reaches → v.plus ≡ old.plus → v.minus ≡ old.minus
-    → length v.shelves.shelves.items ≡ 256 → v.shelves.closed ≤ d → ((p : KeptPair) → IsKept old.shelves p → IsKept v.shelves p) → IsSieve S listed d old → IsSieve S listed d v
-closed_sieve S listed d old v rows reaches plus minus shelves closed kept h = record {
+-- other reaches, and another mirror
+pub sieve_as : (S : LinearSystem) (listed : List (List ℤ)) (d : ℕ) (old mid new : Sieve) → HasNewReaches old mid → HasNewMirror mid new → AreReaches listed mid.reaches.items → IsMirror listed new.mirror.items → IsSieveTo S listed d old.rows old
+    → IsSieveTo S listed d new.rows new
+sieve_as S listed d old mid new r m reaches mirror h =
+    let rows : new.rows ≡ old.rows = m.0 ∙ r.0 in
+    let shelves : new.shelves ≡ old.shelves = m.4 ∙ r.4 in
+    record {
+      plus_table = subst₂ (λ (n : ℕ) (t : Table). IsTable S listed (IsBefore listed has_positive_last n) n t) (sym rows) (sym (m.2 ∙ r.2)) h.plus_table;
+      minus_table = subst₂ (λ (n : ℕ) (t : Table). IsTable S listed (IsBefore listed has_negative_last n) n t) (sym rows) (sym (m.3 ∙ r.3)) h.minus_table;
+      shelves_are = subst (λ (v : Shelves). length v.shelves.items ≡ 256) (sym shelves) h.shelves_are;
+      closed = subst (λ (v : Shelves). v.closed ≤ d) (sym shelves) h.closed;
+      reaches_are = subst (λ r. AreReaches listed r.items) (sym m.1) reaches;
+      mirror_is = mirror;
+      sifted = subst₂ (λ (n : ℕ) (v : Shelves). AreSifted S listed n v) (sym rows) (sym shelves) h.sifted;
+    }
+
+-- the same rows, and other shelves on which their pairs are
+pub same_rows : (S : LinearSystem) (listed : List (List ℤ)) (d : ℕ) (old v : Sieve) → v.rows ≡ old.rows → v.reaches ≡ old.reaches → v.mirror ≡ old.mirror → v.plus ≡ old.plus → v.minus ≡ old.minus
+    → length v.shelves.shelves.items ≡ 256 → v.shelves.closed ≤ d → AreSifted S listed old.rows v.shelves → IsSieve S listed d old → IsSieve S listed d v
+same_rows S listed d old v rows reaches mirror plus minus shelves closed sifted h = record {
   within = omega (arith, rows, h.within);
+  reach_count = omega (arith, rows, ap (λ r. length r.items) reaches, h.reach_count);
   upto = record {
-    plus_table = subst₂ (λ (n : ℕ) (t : Table). IsTable S listed has_positive_last n t) (sym rows) (sym plus) h.upto.plus_table;
-    minus_table = subst₂ (λ (n : ℕ) (t : Table). IsTable S listed has_negative_last n t) (sym rows) (sym minus) h.upto.minus_table;
+    plus_table = subst₂ (λ (n : ℕ) (t : Table). IsTable S listed (IsBefore listed has_positive_last n) n t) (sym rows) (sym plus) h.upto.plus_table;
+    minus_table = subst₂ (λ (n : ℕ) (t : Table). IsTable S listed (IsBefore listed has_negative_last n) n t) (sym rows) (sym minus) h.upto.minus_table;
     shelves_are = shelves;
     closed = closed;
-    reach_count = omega (arith, rows, ap (λ r. length r.items) reaches, h.upto.reach_count);
     reaches_are = subst (λ r. AreReaches listed r.items) (sym reaches) h.upto.reaches_are;
-    sifted = λ i j il jl p m. elim (h.upto.sifted i j (omega (arith, il, rows)) (omega (arith, jl, rows)) p m) [ inl k ↦ inl (kept (pair_by true _ i j) k) | inr n ↦ inr n ];
+    mirror_is = subst (λ m. IsMirror listed m.items) (sym mirror) h.upto.mirror_is;
+    sifted = subst (λ (n : ℕ). AreSifted S listed n v.shelves) (sym rows) sifted;
   };
 }
 
+-- a norm that is closed
+pub still_sifted : (S : LinearSystem) (listed : List (List ℤ)) (n : ℕ) (old new : Shelves) → ((p : KeptPair) → IsKept old p → IsKept new p) → AreSifted S listed n old → AreSifted S listed n new
+still_sifted S listed n old new kept h = λ i j il jl p m. elim (h i j il jl p m) [ inl k ↦ inl (kept (pair_by true _ i j) k) | inr none ↦ inr none ]
+
 -- pairs that are sifted anew
-pub on_ok_renewed : {E : Type 0} (S : LinearSystem) (listed : List (List ℤ)) (d : ℕ) (old v : Sieve) (r : Result (Unit {0}) E) → v.rows ≡ old.rows → v.reaches ≡ old.reaches → v.plus ≡ old.plus → v.minus ≡ old.minus
-    → length v.shelves.shelves.items ≡ 256 → v.shelves.closed ≤ d → OnOk r (AreSifted S listed v.rows v.shelves) → IsSieve S listed d old → OnOk r (IsSieve S listed d v)
-on_ok_renewed S listed d old v (Ok u) rows reaches plus minus shelves closed sifted h = record {
-  within = omega (arith, rows, h.within);
-  upto = record {
-    plus_table = subst₂ (λ (n : ℕ) (t : Table). IsTable S listed has_positive_last n t) (sym rows) (sym plus) h.upto.plus_table;
-    minus_table = subst₂ (λ (n : ℕ) (t : Table). IsTable S listed has_negative_last n t) (sym rows) (sym minus) h.upto.minus_table;
-    shelves_are = shelves;
-    closed = closed;
-    reach_count = omega (arith, rows, ap (λ x. length x.items) reaches, h.upto.reach_count);
-    reaches_are = subst (λ x. AreReaches listed x.items) (sym reaches) h.upto.reaches_are;
-    sifted = sifted;
-  };
-}
-on_ok_renewed S listed d old v (Err x) rows reaches plus minus shelves closed sifted h = tt
+pub on_ok_renewed : {E : Type 0} (S : LinearSystem) (listed : List (List ℤ)) (d : ℕ) (old v : Sieve) (r : Result (Unit {0}) E) → v.rows ≡ old.rows → v.reaches ≡ old.reaches → v.mirror ≡ old.mirror → v.plus ≡ old.plus → v.minus ≡ old.minus
+    → length v.shelves.shelves.items ≡ 256 → v.shelves.closed ≤ d → OnOk r (AreSifted S listed old.rows v.shelves) → IsSieve S listed d old → OnOk r (IsSieve S listed d v)
+on_ok_renewed S listed d old v (Ok u) rows reaches mirror plus minus shelves closed sifted h = same_rows S listed d old v rows reaches mirror plus minus shelves closed sifted h
+on_ok_renewed S listed d old v (Err x) rows reaches mirror plus minus shelves closed sifted h = tt

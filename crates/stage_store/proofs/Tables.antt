@@ -1,10 +1,10 @@
 -- The places of the rows that pass a test, and lines over each 64 of them, as more rows come.
-use Rattle.std.proofs.Common.{◌≡◌, ℕ, zero, suc, ◌+◌, ◌-◌, ◌*◌, ◌/◌, ◌≤◌, ◌<◌, List, [], ◌∷◌, ◌++◌, length, get_or, take, drop, ap, sym, ◌∙◌, subst, subst₂, arith, inl, inr, Bool, true, false, cond, min, length-append, length-drop}
+use Rattle.std.proofs.Common.{◌≡◌, ◌⊎◌, ℕ, zero, suc, ◌+◌, ◌-◌, ◌*◌, ◌/◌, ◌≤◌, ◌<◌, List, [], ◌∷◌, ◌++◌, length, get_or, take, drop, ap, sym, ◌∙◌, subst, subst₂, arith, inl, inr, Bool, true, false, cond, min, length-append, length-drop}
 use Rattle.std.specs.Prelude.{ℤ, Result, Ok, Err, OnOk}
 use Rattle.std.specs.List.{AllByRecursion}
 use Rattle.std.proofs.lemmas.Bool.{cases_Bool, cases_lt, cases_eq}
 use Rattle.std.proofs.lemmas.List.{take_more, take_all, append-nil, length-take-le, get_or_append_left, get_or-append-add}
-use Rattle.stage_store.specs.declared.sieve.Group.{Group}
+use Rattle.stage_store.specs.declared.table.Group.{Group}
 use Rattle.stage_store.specs.Levels.{BarsLine, ReachesLine}
 use Rattle.stage_store.proofs.LineBits.{tell_stays, tell_marked}
 use Rattle.std.proofs.lemmas.List.{get_or-set_other, length-set}
@@ -17,9 +17,9 @@ use Rattle.std.proofs.Common.{◌^◌}
 use Rattle.std.proofs.lemmas.List.{take-append-drop}
 use Rattle.lift_core.specs.Systems.{LinearSystem}
 use Rattle.lift_core.specs.ToolSystems.{width}
-use Rattle.stage_store.specs.declared.sieve.Table.{Table}
+use Rattle.stage_store.specs.declared.table.Table.{Table}
 use Rattle.lift_core.specs.Stages.{stage_norm}
-use Rattle.stage_store.specs.Sieve.{AreBetween, IsGroup, AreGroups, IsSized, AreSized, IsTable}
+use Rattle.stage_store.specs.Sieve.{AreBetween, IsGroup, AreGroups, IsSized, AreSized, IsTable, IsBefore}
 
 module _ (test : List ℤ → Bool) where
   pub places_append : (b : ℕ) (xs ys : List (List ℤ)) → places test b (xs ++ ys) ≡ places test b xs ++ places test (b + length xs) ys
@@ -95,38 +95,81 @@ places_grow test n rows l =
     ap (places test 0) (sym (take-append-drop n rows)) ∙ places_append test 0 (take n rows) (drop n rows) ∙ ap (λ m. places test 0 (take n rows) ++ places test m (drop n rows)) e
 
 -- ---- tables
-pub inside_table : (S : LinearSystem) (listed : List (List ℤ)) (test : List ℤ → Bool) (n : ℕ) (t : Table) → n ≤ length listed → IsTable S listed test n t → AllByRecursion (λ i. i < n) t.ids.items
-inside_table S listed test n t l h = subst (λ ids. AllByRecursion (λ i. i < n) ids) (sym h.ids_are) (places_inside test 0 (take n listed) n (omega (arith, length-take-le n listed l)))
+all_from : {A : Type 0} (P : A → Type 0) (d : A) (xs : List A) → ((k : ℕ) → k < length xs → P (get_or xs k d)) → AllByRecursion P xs
+all_from P d [] h = tt
+all_from P d (x ∷ xs) h = (h 0 (omega arith), all_from P d xs (λ k l. h (suc k) (omega (arith, l))))
 
-pub few_table : (S : LinearSystem) (listed : List (List ℤ)) (test : List ℤ → Bool) (n : ℕ) (t : Table) → n ≤ length listed → length listed ≤ 2 ^ 21 → IsTable S listed test n t → length t.ids.items ≤ 2 ^ 21
-few_table S listed test n t l few h = omega (arith, ap length h.ids_are, places_few test 0 (take n listed), length-take-le n listed l, l, few)
+module _ (S : LinearSystem) (listed : List (List ℤ)) where
+  pub inside_table : (P : ℕ → Type 0) (n m : ℕ) (t : Table) → ((i : ℕ) → i < length listed → P i → i < m) → IsTable S listed P n t → AllByRecursion (λ i. i < m) t.ids.items
+  inside_table P n m t less h = all_from (λ i. i < m) 0 t.ids.items (λ k l. let x = h.inside k l in less (get_or t.ids.items k 0) x.0 x.1)
 
--- one row more that passes the test
-pub table_more : (S : LinearSystem) (listed : List (List ℤ)) (test : List ℤ → Bool) (i : ℕ) (old new : Table) → i < length listed → test (row_at listed i) ≡ true → IsTable S listed test i old
-    → new.ids.items ≡ old.ids.items ++ (i ∷ []) → length new.groups.items ≡ (length new.ids.items + 63) / 64 → AreSized (16 * width S) new.groups.items → AreGroups S listed new.ids.items new.groups.items → IsTable S listed test (i + 1) new
-table_more S listed test i old new l t h ids count sized groups = record {
-  ids_are = one_place test listed i old.ids.items new.ids.items l t h.ids_are ids;
-  count = count;
-  sized = sized;
-  groups = groups;
-}
+  -- one row more
+  pub table_put : (P Q : ℕ → Type 0) (n i : ℕ) (old new : Table) → i < length listed → Q i → ((x : ℕ) → x < length listed → P x → Q x) → ((x : ℕ) → x < length listed → Q x → P x ⊎ (x ≡ i)) → IsTable S listed P n old
+      → new.ids.items ≡ old.ids.items ++ (i ∷ []) → length new.groups.items ≡ (length new.ids.items + 63) / 64 → AreSized (16 * width S) new.groups.items → AreGroups S listed new.ids.items new.groups.items → IsTable S listed Q (n + 1) new
+  table_put P Q n i old new l here more cases h ids count sized groups = record {
+    inside = λ k kl. elim (cases_lt k (length old.ids.items)) [
+      | inl s ↦
+          let x = h.inside k s in
+          subst (λ (y : ℕ). (y < length listed) × Q y) (sym (at_old k s)) (x.0, more (get_or old.ids.items k 0) x.0 x.1)
+      | inr s ↦ subst (λ (y : ℕ). (y < length listed) × Q y) (sym (at_new k s kl)) (l, here)
+    ];
+    whole = λ x xl q. elim (cases x xl q) [
+      | inl p ↦ let y = h.whole x xl p in (y.0, omega (arith, y.1, longer), at_old y.0 y.1 ∙ y.2)
+      | inr e ↦ (length old.ids.items, omega (arith, longer), at_new (length old.ids.items) (omega arith) (omega (arith, longer)) ∙ sym e)
+    ];
+    few = omega (arith, longer, h.few);
+    count = count;
+    sized = sized;
+    groups = groups;
+  }
+    where
+      longer : length new.ids.items ≡ length old.ids.items + 1
+      longer = ap length ids ∙ length-append old.ids.items (i ∷ [])
 
--- one row more that does not
-pub table_less : (S : LinearSystem) (listed : List (List ℤ)) (test : List ℤ → Bool) (i : ℕ) (t : Table) → i < length listed → test (row_at listed i) ≡ false → IsTable S listed test i t → IsTable S listed test (i + 1) t
-table_less S listed test i t l fails h = record {
-  ids_are = no_place test listed i t.ids.items l fails h.ids_are;
-  count = h.count;
-  sized = h.sized;
-  groups = h.groups;
-}
+      at_old : (k : ℕ) → k < length old.ids.items → get_or new.ids.items k 0 ≡ get_or old.ids.items k 0
+      at_old k s = ap (λ (xs : List ℕ). get_or xs k 0) ids ∙ get_or_append_left old.ids.items (i ∷ []) 0 k s
 
-pub no_table : (S : LinearSystem) (listed : List (List ℤ)) (test : List ℤ → Bool) (n : ℕ) (t : Table) → n ≡ 0 → t.ids.items ≡ [] → t.groups.items ≡ [] → IsTable S listed test n t
-no_table S listed test n t z e f = record {
-  ids_are = e ∙ sym (ap (λ m. places test 0 (take m listed)) z);
-  count = omega (arith, ap length e, ap length f);
-  sized = λ a d l. absurd (omega (arith, ap length f, l));
-  groups = λ a d l. absurd (omega (arith, ap length f, l));
-}
+      at_new : (k : ℕ) → length old.ids.items ≤ k → k < length new.ids.items → get_or new.ids.items k 0 ≡ i
+      at_new k s kl =
+          let e : k ≡ length old.ids.items + 0 = omega (arith, s, kl, longer) in
+          ap (λ (xs : List ℕ). get_or xs k 0) ids ∙ ap (λ (m : ℕ). get_or (old.ids.items ++ (i ∷ [])) m 0) e ∙ get_or-append-add old.ids.items (i ∷ []) 0 0
+
+  -- the same rows
+  pub table_as : (P Q : ℕ → Type 0) (n m : ℕ) (t : Table) → n ≤ m → ((x : ℕ) → x < length listed → P x → Q x) → ((x : ℕ) → x < length listed → Q x → P x) → IsTable S listed P n t → IsTable S listed Q m t
+  table_as P Q n m t l more less h = record {
+    inside = λ k kl. let x = h.inside k kl in (x.0, more (get_or t.ids.items k 0) x.0 x.1);
+    whole = λ x xl q. h.whole x xl (less x xl q);
+    few = omega (arith, h.few, l);
+    count = h.count;
+    sized = h.sized;
+    groups = h.groups;
+  }
+
+  pub no_table : (P : ℕ → Type 0) (n : ℕ) (t : Table) → ((x : ℕ) → P x → ⊥) → t.ids.items ≡ [] → t.groups.items ≡ [] → IsTable S listed P n t
+  no_table P n t none e f = record {
+    inside = λ k l. absurd (omega (arith, ap length e, l));
+    whole = λ x xl p. absurd (none x p);
+    few = omega (arith, ap length e);
+    count = omega (arith, ap length e, ap length f);
+    sized = λ a d l. absurd (omega (arith, ap length f, l));
+    groups = λ a d l. absurd (omega (arith, ap length f, l));
+  }
+
+  -- one row more that passes the test, and one that does not
+  pub before_more : (test : List ℤ → Bool) (i x : ℕ) → IsBefore listed test i x → IsBefore listed test (i + 1) x
+  before_more test i x h = (omega (arith, h.0), h.1)
+
+  pub before_cases : (test : List ℤ → Bool) (i x : ℕ) → IsBefore listed test (i + 1) x → IsBefore listed test i x ⊎ (x ≡ i)
+  before_cases test i x h = elim (cases_eq x i) [ inl e ↦ inr e | inr d ↦ inl (omega (arith, h.0, d), h.1) ]
+
+  pub table_less : (test : List ℤ → Bool) (i : ℕ) (t : Table) → test (row_at listed i) ≡ false → IsTable S listed (IsBefore listed test i) i t → IsTable S listed (IsBefore listed test (i + 1)) (i + 1) t
+  table_less test i t fails h = table_as (IsBefore listed test i) (IsBefore listed test (i + 1)) i (i + 1) t (omega arith) (λ x xl p. before_more test i x p) (λ x xl q. elim (before_cases test i x q) [
+    | inl p ↦ p
+    | inr e ↦ absurd (not_both (test (row_at listed i)) fails (subst (λ (y : ℕ). test (row_at listed y) ≡ true) e q.1))
+  ]) h
+    where
+      not_both : (b : Bool) → b ≡ false → b ≡ true → ⊥
+      not_both b e f = let g : true ≡ false = sym f ∙ e in cc
 
 -- ---- groups
 -- a group that is put at its place
@@ -210,11 +253,11 @@ pub each_less : (m n : ℕ) (ids : List ℕ) → m ≤ n → AllByRecursion (λ 
 each_less m n [] l h = tt
 each_less m n (i ∷ ids) l h = (omega (arith, l, h.0), each_less m n ids l h.1)
 
-pub on_ok_table : {E : Type 0} (S : LinearSystem) (listed : List (List ℤ)) (test : List ℤ → Bool) (i : ℕ) (old new : Table) (r : Result (Unit {0}) E) → i < length listed → test (row_at listed i) ≡ true → IsTable S listed test i old
-    → OnOk r (new.ids.items ≡ old.ids.items ++ (i ∷ [])) → OnOk r (length new.groups.items ≡ (length new.ids.items + 63) / 64) → OnOk r (AreSized (16 * width S) new.groups.items) → OnOk r (AreGroups S listed new.ids.items new.groups.items)
-    → OnOk r (IsTable S listed test (i + 1) new)
-on_ok_table S listed test i old new (Ok u) l t h ids count sized groups = table_more S listed test i old new l t h ids count sized groups
-on_ok_table S listed test i old new (Err x) l t h ids count sized groups = tt
+pub on_ok_table : {E : Type 0} (S : LinearSystem) (listed : List (List ℤ)) (P Q : ℕ → Type 0) (n i : ℕ) (old new : Table) (r : Result (Unit {0}) E) → i < length listed → Q i → ((x : ℕ) → x < length listed → P x → Q x)
+    → ((x : ℕ) → x < length listed → Q x → P x ⊎ (x ≡ i)) → IsTable S listed P n old → OnOk r (new.ids.items ≡ old.ids.items ++ (i ∷ [])) → OnOk r (length new.groups.items ≡ (length new.ids.items + 63) / 64)
+    → OnOk r (AreSized (16 * width S) new.groups.items) → OnOk r (AreGroups S listed new.ids.items new.groups.items) → OnOk r (IsTable S listed Q (n + 1) new)
+on_ok_table S listed P Q n i old new (Ok u) l here more cases h ids count sized groups = table_put S listed P Q n i old new l here more cases h ids count sized groups
+on_ok_table S listed P Q n i old new (Err x) l here more cases h ids count sized groups = tt
 
 pub on_ok_groups : {E : Type 0} (S : LinearSystem) (listed : List (List ℤ)) (i norm : ℕ) (bars reached ids ids' : List ℕ) (groups groups' : List Group) (r : Result (Unit {0}) E)
     → OnOk r ((S : LinearSystem) (listed : List (List ℤ)) → AreGroups S listed ids groups → norm ≡ stage_norm (row_at listed i) → AreTrue (BarsLine S listed (row_at listed i)) true bars → AreTrue (ReachesLine (row_at listed i)) false reached

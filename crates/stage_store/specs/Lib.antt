@@ -25,6 +25,7 @@ pub mod Sound
 pub mod Reaches
 pub mod Lines
 pub mod Levels
+pub mod Mirror
 pub mod SiftLaws
 pub mod Shelves
 pub mod Sieve

@@ -1,24 +1,25 @@
 -- The sieve: which pairs of listed rows may have an irreducible sum. What it says is one-sided: a pair that is kept may
 -- have none, and one that is not kept has none.
-use Rattle.std.specs.Prelude.{◌≡◌, ◌⊎◌, ℕ, ◌+◌, ◌*◌, ◌/◌, ◌<◌, ◌≤◌, List, [], ℤ, Bool, true, false, length, take, slice_index_or}
+use Rattle.std.specs.Prelude.{◌≡◌, ◌⊎◌, ℕ, ◌+◌, ◌*◌, ◌/◌, ◌<◌, ◌≤◌, List, [], ℤ, Bool, true, false, length, slice_index_or}
 use Rattle.std.specs.List.{AllByRecursion}
 use Rattle.lift_core.specs.Systems.{LinearSystem}
 use Rattle.lift_core.specs.ToolSystems.{width}
 use Rattle.lift_core.specs.Stages.{stage_norm, has_positive_last, has_negative_last}
 use Rattle.int_vector.specs.Vectors.{largest}
-use Rattle.stage_store.specs.Classes.{row_at, places}
+use Rattle.stage_store.specs.Classes.{row_at}
 use Rattle.std.specs.Int.{bit_at}
 use Rattle.stage_store.specs.Lines.{Tell, HasBit}
 use Rattle.stage_store.specs.Levels.{BarsLine, ReachesLine, AreTrue}
 use Rattle.stage_store.specs.Found.{IsSumOf}
 use Rattle.stage_store.specs.Reaches.{AreReaches}
-use Rattle.stage_store.specs.declared.sieve.Group.{Group}
-use Rattle.stage_store.specs.declared.sieve.Room.{Room}
+use Rattle.stage_store.specs.declared.table.Group.{Group}
+use Rattle.stage_store.specs.declared.room.Room.{Room}
 use Rattle.stage_store.specs.declared.sieve.KeptPair.{KeptPair}
-use Rattle.stage_store.specs.declared.sieve.Table.{Table}
+use Rattle.stage_store.specs.declared.table.Table.{Table}
 use Rattle.stage_store.specs.declared.sieve.Sieve.{Sieve}
 use Rattle.stage_store.specs.declared.shelves.Shelves.{Shelves}
 use Rattle.stage_store.specs.Shelves.{IsKept}
+use Rattle.stage_store.specs.Mirror.{place_in, IsMirror, IsWholeMirror}
 
 -- the pair of the rows at places i and j, the first with last entry above 0 where so it is told
 abbrev pub pair_by : Bool → ℕ → ℕ → ℕ → KeptPair
@@ -39,8 +40,16 @@ abbrev pub IsSiftedBy : Bool → LinearSystem → List (List ℤ) → Shelves �
 IsSiftedBy positive S listed shelves i j =
     IsKept shelves (pair_by positive (stage_norm (row_at listed i) + stage_norm (row_at listed j)) i j) ⊎ HasNoNewSumBy positive S listed i j
 
-abbrev pub AreSiftedBy : Bool → LinearSystem → List (List ℤ) → Shelves → ℕ → List ℕ → Type 0
-AreSiftedBy positive S listed shelves i js = (k : ℕ) → k < length js → IsSiftedBy positive S listed shelves i (slice_index_or js k 0)
+-- and so is the pair of their negatives, where the mirror has these
+abbrev pub AreBothSifted : Bool → LinearSystem → List (List ℤ) → Shelves → List ℕ → ℕ → ℕ → Type 0
+AreBothSifted positive S listed shelves mirror i j =
+    IsSiftedBy positive S listed shelves i j
+    × (i < length mirror → j < length mirror
+    → IsSiftedBy positive S listed shelves (place_in mirror j) (place_in mirror i))
+
+abbrev pub AreSiftedBy : Bool → LinearSystem → List (List ℤ) → Shelves → List ℕ → ℕ → List ℕ → Type 0
+AreSiftedBy positive S listed shelves mirror i js =
+    (k : ℕ) → k < length js → AreBothSifted positive S listed shelves mirror i (slice_index_or js k 0)
 
 -- the norms are in range
 abbrev pub AreNormed : List (List ℤ) → Type 0
@@ -83,12 +92,27 @@ IsDead g bar_reads reach_reads bits = (r : ℕ) → r < 64 → bit_at bits r ≡
     → ((a : ℕ) × (a < length bar_reads) × HasBit g.bars (slice_index_or bar_reads a 0) r)
     ⊎ ((a : ℕ) × (a < length reach_reads) × HasBit g.reached (slice_index_or reach_reads a 0) r)
 
--- the places of the first n rows that pass the test, with lines over each 64 of them
-pub record IsTable (S : LinearSystem) (listed : List (List ℤ)) (test : List ℤ → Bool) (n : ℕ) (t : Table) : Type 0 where
-  pub ids_are : t.ids.items ≡ places test 0 (take n listed)
+-- i is at some place of the list
+abbrev pub HasPlace : List ℕ → ℕ → Type 0
+HasPlace ids i = (k : ℕ) × (k < length ids) × (slice_index_or ids k 0 ≡ i)
+
+-- a table of the listed rows at the places with P, at most n, with lines over each 64 of them
+pub record IsTable (S : LinearSystem) (listed : List (List ℤ)) (P : ℕ → Type 0) (n : ℕ) (t : Table) : Type 0 where
+  pub inside : (k : ℕ) → k < length t.ids.items
+      → (slice_index_or t.ids.items k 0 < length listed) × P (slice_index_or t.ids.items k 0)
+  pub whole : (i : ℕ) → i < length listed → P i → HasPlace t.ids.items i
+  pub few : length t.ids.items ≤ n
   pub count : length t.groups.items ≡ (length t.ids.items + 63) / 64
   pub sized : AreSized (16 * width S) t.groups.items
   pub groups : AreGroups S listed t.ids.items t.groups.items
+
+-- place i is before place n, and its row passes the test
+abbrev pub IsBefore : List (List ℤ) → (List ℤ → Bool) → ℕ → ℕ → Type 0
+IsBefore listed test n i = (i < n) × (test (row_at listed i) ≡ true)
+
+-- the place of the negative of row i is before place n, and the row's last entry is below 0
+abbrev pub IsTurnedBefore : List (List ℤ) → List ℕ → ℕ → ℕ → Type 0
+IsTurnedBefore listed mirror n i = (place_in mirror i < n) × (has_negative_last (row_at listed i) ≡ true)
 
 -- each pair of the first n rows is kept, or has no irreducible sum
 abbrev pub AreSifted : LinearSystem → List (List ℤ) → ℕ → Shelves → Type 0
@@ -97,22 +121,46 @@ AreSifted S listed n shelves =
 
 -- the first n rows are sifted, but for pairs of norms that are not kept; those up to norm d may be closed
 pub record IsSieveTo (S : LinearSystem) (listed : List (List ℤ)) (d n : ℕ) (v : Sieve) : Type 0 where
-  pub plus_table : IsTable S listed has_positive_last n v.plus
-  pub minus_table : IsTable S listed has_negative_last n v.minus
+  pub plus_table : IsTable S listed (IsBefore listed has_positive_last n) n v.plus
+  pub minus_table : IsTable S listed (IsBefore listed has_negative_last n) n v.minus
   pub shelves_are : length v.shelves.shelves.items ≡ 256
   pub closed : v.shelves.closed ≤ d
-  pub reach_count : length v.reaches.items ≡ n
   pub reaches_are : AreReaches listed v.reaches.items
+  pub mirror_is : IsMirror listed v.mirror.items
   pub sifted : AreSifted S listed n v.shelves
 
 pub record IsSieve (S : LinearSystem) (listed : List (List ℤ)) (d : ℕ) (v : Sieve) : Type 0 where
   pub within : v.rows ≤ length listed
+  pub reach_count : length v.reaches.items ≡ v.rows
   pub upto : IsSieveTo S listed d v.rows v
+
+-- the rows before place n with last entry above 0 are sifted, and the negatives of these
+pub record AreCoupledTo (S : LinearSystem) (listed : List (List ℤ)) (d n : ℕ) (v : Sieve) : Type 0 where
+  pub plus_table : IsTable S listed (IsBefore listed has_positive_last n) n v.plus
+  pub minus_table : IsTable S listed (IsTurnedBefore listed v.mirror.items n) n v.minus
+  pub shelves_are : length v.shelves.shelves.items ≡ 256
+  pub closed : v.shelves.closed ≤ d
+  pub reaches_are : AreReaches listed v.reaches.items
+  pub whole : IsWholeMirror listed v.mirror.items
+  pub sifted : (i j : ℕ) → i < length listed → j < length listed → IsBefore listed has_positive_last n i → IsTurnedBefore listed v.mirror.items n j
+      → IsSiftedBy true S listed v.shelves i j
+
+-- all is the same but for the reaches, or but for the mirror
+abbrev pub HasNewReaches : Sieve → Sieve → Type 0
+HasNewReaches old new =
+    (new.rows ≡ old.rows) × (new.mirror ≡ old.mirror) × (new.plus ≡ old.plus) × (new.minus ≡ old.minus)
+    × (new.shelves ≡ old.shelves)
+
+abbrev pub HasNewMirror : Sieve → Sieve → Type 0
+HasNewMirror old new =
+    (new.rows ≡ old.rows) × (new.reaches ≡ old.reaches) × (new.plus ≡ old.plus) × (new.minus ≡ old.minus)
+    × (new.shelves ≡ old.shelves)
 
 -- nothing was sifted
 pub record IsNewSieve (v : Sieve) : Type 0 where
   pub none : v.rows ≡ 0
   pub no_reaches : v.reaches.items ≡ []
+  pub no_mirror : v.mirror.items ≡ []
   pub plus_ids : v.plus.ids.items ≡ []
   pub plus_groups : v.plus.groups.items ≡ []
   pub minus_ids : v.minus.ids.items ≡ []
@@ -126,6 +174,7 @@ pub record AreAsked (S : LinearSystem) (listed : List (List ℤ)) (f : List ℤ)
   pub probe : length r.probe.items ≡ width S + 1
   pub bars_count : length r.bars.items ≡ 2 * width S
   pub reached_count : length r.reached.items ≡ 2 * width S
+  pub turned_count : length r.turned.items ≡ 2 * width S
   pub bars : AreTrue (BarsLine S listed f) true r.bars.items
   pub reached : AreTrue (ReachesLine f) false r.reached.items
   pub bar_reads : AreReads (ReachesLine f) (16 * width S) r.bar_reads.items
@@ -136,3 +185,4 @@ pub record IsRoom (S : LinearSystem) (r : Room) : Type 0 where
   pub probe : length r.probe.items ≡ width S + 1
   pub bars_count : length r.bars.items ≡ 2 * width S
   pub reached_count : length r.reached.items ≡ 2 * width S
+  pub turned_count : length r.turned.items ≡ 2 * width S

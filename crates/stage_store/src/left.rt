@@ -4,7 +4,7 @@ ghost use Rattle.std.specs.Prelude.{◌*◌, length};
 ghost use Rattle.stage_store.specs.Lines.{AreInside};
 ghost use Rattle.stage_store.specs.Sieve.{AreSized};
 
-use crate::sieve::Table;
+use crate::table::Table;
 use std::alloc::{AllocError, Global};
 
 /// For so many rows a search is made: it takes longer than a pair or two.

@@ -9,14 +9,17 @@ mod left;
 mod lifting;
 mod lines;
 mod marks;
+mod mirror;
 mod numbered;
 mod opened;
 mod order;
 mod reach;
 mod rebuilding;
+mod room;
 mod shelves;
 mod sieve;
 mod stage;
+mod table;
 mod tally;
 
 pub use counting::pairs_within;

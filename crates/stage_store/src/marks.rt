@@ -14,7 +14,7 @@ ghost use Rattle.lift_core.specs.Halves.{IsReducible};
 
 use crate::left::Left;
 use crate::reach::{fill_probe, find_listed};
-use crate::sieve::Table;
+use crate::table::Table;
 use int_vector::below;
 use lift_core::System;
 use reduce_tree::Tree;

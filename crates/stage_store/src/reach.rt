@@ -6,6 +6,7 @@
 
 ghost use Rattle.std.specs.Prelude.{◌≡◌, ◌↔◌, ◌+◌, ◌<◌, ◌≤◌, List, ℤ, length, pos, slice_index_or, All, IfSome, IsTrue};
 ghost use Rattle.lift_core.specs.Halves.{IsReducible};
+ghost use Rattle.stage_store.specs.Classes.{row_at};
 ghost use Rattle.stage_store.specs.Indexed.{HoldsRows};
 ghost use Rattle.std.specs.List.{Contains};
 ghost use Rattle.lift_core.specs.Systems.{LinearSystem};
@@ -120,6 +121,22 @@ pub fn reach_of(listed: &Pool, tree: &Tree, row: &[i64], probe: &mut [i64]) -> u
         next = low + reach.saturating_sub(low) / 2;
     }
     reach
+}
+
+/// The reach of a listed row, and 0 where none was found or the row's last entry is 0.
+pub fn reach_at(listed: &Pool, tree: &Tree, i: u32, probe: &mut [i64]) -> u64
+    requires indexed { HoldsRows tree.now listed.now }
+    requires some { 0 < listed.now.width }
+    requires row { i < length listed.now.rows }
+    requires probe { length probe.old ≡ listed.now.width }
+    ensures probe { length probe.new ≡ length probe.old }
+    ensures reach { IsReachOr listed.now.rows (row_at listed.now.rows i) result }
+{
+    let row = listed.row(RowId(i));
+    if row[row.len() - 1] == 0 {
+        return 0;
+    }
+    reach_of(listed, tree, row, probe)
 }
 
 /// Whether a value is larger than another by a reach or more. A reach of 0 tells nothing.

@@ -3,7 +3,7 @@
 //! A pair is sifted once, when the later of its rows is listed: the new row meets lines of bits over all rows of the
 //! other sign, 64 at a time. What is left is kept on the shelf of its norm.
 
-ghost use Rattle.std.specs.Prelude.{◌≡◌, ◌+◌, ◌-◌, ◌*◌, ◌/◌, ◌%◌, ◌<◌, ◌≤◌, ◌^◌, ◌++◌, ◌∷◌, [], ℕ, ℤ, List, length, take, drop, true, false, Bool, slice_index_or, OnOk, OnErr, IfOk, IsTrue};
+ghost use Rattle.std.specs.Prelude.{◌≡◌, ◌+◌, ◌-◌, ◌*◌, ◌/◌, ◌%◌, ◌<◌, ◌≤◌, ◌^◌, ◌++◌, ◌∷◌, [], ℕ, ℤ, List, length, take, drop, true, false, Bool, slice_index_or, OnOk, OnErr, IfOk, IsTrue, IsFalse};
 ghost use Rattle.std.specs.Int.{bit_at};
 ghost use Rattle.std.specs.List.{AllByRecursion, Contains};
 ghost use Rattle.lift_core.specs.Systems.{LinearSystem};
@@ -15,14 +15,15 @@ ghost use Rattle.stage_store.specs.Lines.{AreClear, AreInside};
 ghost use Rattle.stage_store.specs.Levels.{AreTrue, BarsLine, ReachesLine};
 ghost use Rattle.stage_store.specs.Reaches.{AreReaches};
 ghost use Rattle.stage_store.specs.Shelves.{IsKept, Stay};
-ghost use Rattle.stage_store.specs.Sieve.{HasNoNewSumBy, IsSiftedBy, AreSiftedBy, AreSifted, IsGroup, AreGroups, IsSized, AreSized, IsDead, IsTable, IsSieveTo, IsSieve, IsNewSieve, IsRoom, AreAsked, AreReads, AreNormed, AreWide, pair_by};
+ghost use Rattle.stage_store.specs.Mirror.{IsMirror, IsWholeOr, IsTurnedTo, place_in};
+ghost use Rattle.stage_store.specs.Sieve.{HasNoNewSumBy, AreSiftedBy, AreSifted, AreGroups, IsSized, AreSized, IsDead, IsTable, IsBefore, IsSieveTo, IsSieve, IsNewSieve, IsRoom, AreReads, AreNormed, AreWide, AreCoupledTo, HasNewReaches, HasNewMirror, pair_by};
 
 use crate::growing::{has_sign, norm_of};
-use crate::left::Left;
-use crate::lines::{Lines, take_said};
-use crate::marks::{fill_bars, fill_reached};
-use crate::reach::{is_passed, reach_of};
+use crate::mirror::{add_turned, are_turned};
+use crate::reach::{is_passed, reach_at};
+use crate::room::Room;
 use crate::shelves::Shelves;
+use crate::table::Table;
 use lift_core::System;
 use reduce_tree::Tree;
 use row_pool::{Pool, RowId};
@@ -36,39 +37,6 @@ pub struct KeptPair {
     pub second: u32,
 }
 
-/// Lines over 64 rows: for each level of each item which rows bar it, and which reach it.
-#[derive(Drop)]
-pub struct Group {
-    bars: Lines,
-    reached: Lines,
-    /// No row has a norm below this one.
-    least: u64,
-    /// No row has a norm above this one.
-    most: u64,
-}
-
-/// The listed rows of one sign of the last entry, by their places, and lines over each 64 of them.
-#[derive(Drop)]
-pub struct Table {
-    ids: Vec<u32>,
-    groups: Vec<Group>,
-}
-
-/// Room for what is asked of a row: from which level on it bars each item, how many levels of each it reaches, and the
-/// lines that are read for it.
-#[derive(Drop)]
-pub struct Room {
-    probe: Vec<i64>,
-    bars: Vec<u8>,
-    reached: Vec<u8>,
-    /// Where rows that bar what this one reaches have a bit.
-    bar_reads: Vec<usize>,
-    /// Where rows that reach what this one bars have a bit.
-    reach_reads: Vec<usize>,
-    /// The rows that are left after that.
-    left: Left,
-}
-
 /// The sieve over the first listed rows.
 #[derive(Drop)]
 pub struct Sieve {
@@ -76,6 +44,8 @@ pub struct Sieve {
     rows: u32,
     /// How far the last entry of a partner's may be from each row's, where that is known.
     reaches: Vec<u64>,
+    /// The place of each row's negative, where all have one. Else there are no places.
+    mirror: Vec<u32>,
     plus: Table,
     minus: Table,
     /// The pairs that may have an irreducible sum.
@@ -101,11 +71,12 @@ fn pair_of(positive: bool, norm: u64, i: u32, j: u32) -> KeptPair
     }
 }
 
-/// Keeps the pair of two rows.
+/// Keeps the pair of two rows, and that of their negatives where the mirror has these.
 fn keep_rows(
     shelves: &mut Shelves,
     listed: &Pool,
     width: usize,
+    mirror: &[u32],
     positive: bool,
     i: u32,
     j: u32,
@@ -118,10 +89,19 @@ fn keep_rows(
     ensures count { length shelves.new.shelves.items ≡ 256 }
     ensures stay { Stay shelves.old shelves.new }
     ensures kept { OnOk result (IsKept shelves.new (pair_by positive (stage_norm (row_at listed.now.rows i) + stage_norm (row_at listed.now.rows j)) i j)) }
+    ensures turned { OnOk result (i < length mirror.now → j < length mirror.now
+        → IsKept shelves.new (pair_by positive (stage_norm (row_at listed.now.rows i) + stage_norm (row_at listed.now.rows j))
+        (place_in mirror.now j) (place_in mirror.now i))) }
 {
     let one = norm_of(listed.row(RowId(i)), width);
     let two = norm_of(listed.row(RowId(j)), width);
-    shelves.keep(pair_of(positive, one + two, i, j))
+    shelves.keep(pair_of(positive, one + two, i, j))?;
+    if i as usize >= mirror.len() || j as usize >= mirror.len() {
+        return Ok(());
+    }
+    let first = mirror[j as usize];
+    let second = mirror[i as usize];
+    shelves.keep(pair_of(positive, one + two, first, second))
 }
 
 /// Sifts the pairs of a row with at most 64 others, each of which has a bit of `dead` that tells, where it is set,
@@ -131,6 +111,7 @@ fn sift_group(
     system: &System,
     listed: &Pool,
     reaches: &[u64],
+    mirror: &[u32],
     positive: bool,
     i: u32,
     others: &[u32],
@@ -141,6 +122,8 @@ fn sift_group(
     requires reach_count { length reaches.now ≤ length listed.now.rows }
     requires width { listed.now.width ≡ width system.now.equations + 1 }
     requires norms { AreNormed listed.now.rows }
+    requires wide { AreWide (width system.now.equations + 1) listed.now.rows }
+    requires mirror { IsWholeOr listed.now.rows mirror.now }
     requires row { i < length reaches.now }
     requires others { AllByRecursion (λ j. j < length reaches.now) others.now }
     requires most { length others.now ≤ 64 }
@@ -148,7 +131,7 @@ fn sift_group(
         → HasNoNewSumBy positive system.now.equations listed.now.rows i (slice_index_or others.now k 0) }
     ensures count { length shelves.new.shelves.items ≡ 256 }
     ensures stay { Stay shelves.old shelves.new }
-    ensures sifted { OnOk result (AreSiftedBy positive system.now.equations listed.now.rows shelves.new i others.now) }
+    ensures sifted { OnOk result (AreSiftedBy positive system.now.equations listed.now.rows shelves.new mirror.now i others.now) }
 {
     // Of most groups all rows are out.
     if dead == u64::MAX {
@@ -162,225 +145,9 @@ fn sift_group(
         if is_passed(listed, width, reaches, positive, i, others[k]) {
             continue;
         }
-        keep_rows(shelves, listed, width, positive, i, others[k])?;
+        keep_rows(shelves, listed, width, mirror, positive, i, others[k])?;
     }
     Ok(())
-}
-
-impl Group {
-    /// So many lines of each kind, without a bit that is set.
-    fn new(alloc: Global, count: usize) -> Result<Group, AllocError>
-        ensures sized { IfOk result (IsSized count) }
-        ensures bars { IfOk result (λ g. AreClear g.bars) }
-        ensures reached { IfOk result (λ g. AreClear g.reached) }
-    {
-        Ok(Group {
-            bars: Lines::new(alloc, count)?,
-            reached: Lines::new(alloc, count)?,
-            least: u64::MAX,
-            most: 0,
-        })
-    }
-
-    /// The rows that make no irreducible sum with the one for which these lines are read.
-    fn dead(&self, bar_reads: &[usize], reach_reads: &[usize]) -> u64
-        requires bars { AreInside (length self.now.bars) bar_reads.now }
-        requires reached { AreInside (length self.now.reached) reach_reads.now }
-        ensures { IsDead self.now bar_reads.now reach_reads.now result }
-    {
-        let barred = self.bars.any(bar_reads);
-        if barred == u64::MAX {
-            return barred;
-        }
-        barred | self.reached.any(reach_reads)
-    }
-}
-
-/// The first bits of a word, so many of them.
-fn first_bits(count: usize) -> u64 {
-    if count < 64 {
-        !(u64::MAX << count)
-    } else {
-        u64::MAX
-    }
-}
-
-impl Table {
-    /// A table without rows.
-    fn new(alloc: Global) -> Table
-        ensures ids { result.ids.items ≡ [] }
-        ensures groups { result.groups.items ≡ [] }
-    {
-        Table {
-            ids: Vec::new(alloc),
-            groups: Vec::new(alloc),
-        }
-    }
-
-    /// How many groups there are.
-    pub fn groups(&self) -> usize
-        ensures { result ≡ length self.now.groups.items }
-    {
-        self.groups.len()
-    }
-
-    /// The rows of a group that have no bit in the lines that are read.
-    pub fn left_in(
-        &self,
-        count: usize,
-        group: usize,
-        bar_reads: &[usize],
-        reach_reads: &[usize],
-    ) -> u64
-        requires group { group < length self.now.groups.items }
-        requires sized { AreSized count self.now.groups.items }
-        requires bars { AreInside count bar_reads.now }
-        requires reached { AreInside count reach_reads.now }
-    {
-        let dead = self.groups[group].dead(bar_reads, reach_reads);
-        !dead & first_bits(self.ids.len().saturating_sub(group.saturating_mul(64)))
-    }
-
-    /// The rows of a group that reach an item at a level.
-    pub fn reached_line(&self, group: usize, item: usize, level: u8) -> u64 {
-        match self.groups.get(group) {
-            Some(group) => group
-                .reached
-                .line(item.saturating_mul(8).saturating_add(level as usize)),
-            None => 0,
-        }
-    }
-
-    /// Makes room for one row more in the last group.
-    fn open_group(&mut self, alloc: Global, count: usize) -> Result<(), AllocError>
-        requires count { length self.old.groups.items ≡ (length self.old.ids.items + 63) / 64 }
-        requires sized { AreSized count self.old.groups.items }
-        ensures ids { self.new.ids ≡ self.old.ids }
-        ensures count { OnOk result (length self.new.groups.items ≡ length self.old.ids.items / 64 + 1) }
-        ensures sized { OnOk result (AreSized count self.new.groups.items) }
-        ensures groups { OnOk result ((S : LinearSystem) (listed : List (List ℤ)) → AreGroups S listed self.old.ids.items self.old.groups.items
-            → AreGroups S listed self.old.ids.items self.new.groups.items) }
-    {
-        if self.ids.len() % 64 == 0 {
-            self.groups.push(Group::new(alloc, count)?)?;
-        }
-        Ok(())
-    }
-
-    /// Takes in a row, with its norm and what it bars and reaches.
-    fn push(
-        &mut self,
-        alloc: Global,
-        i: u32,
-        norm: u64,
-        bars: &[u8],
-        reached: &[u8],
-    ) -> Result<(), AllocError>
-        requires few { length bars.now ≤ 260 }
-        requires lengths { length bars.now ≡ length reached.now }
-        requires count { length self.old.groups.items ≡ (length self.old.ids.items + 63) / 64 }
-        requires sized { AreSized (8 * length bars.now) self.old.groups.items }
-        ensures ids { OnOk result (self.new.ids.items ≡ self.old.ids.items ++ i ∷ []) }
-        ensures count { OnOk result (length self.new.groups.items ≡ (length self.new.ids.items + 63) / 64) }
-        ensures sized { OnOk result (AreSized (8 * length bars.now) self.new.groups.items) }
-        ensures groups { OnOk result ((S : LinearSystem) (listed : List (List ℤ)) → AreGroups S listed self.old.ids.items self.old.groups.items
-            → norm ≡ stage_norm (row_at listed i)
-            → AreTrue (BarsLine S listed (row_at listed i)) true bars.now → AreTrue (ReachesLine (row_at listed i)) false reached.now
-            → AreGroups S listed self.new.ids.items self.new.groups.items) }
-    {
-        let place = self.ids.len();
-        self.open_group(alloc, 8 * bars.len())?;
-        self.ids.push(i)?;
-        let group = &mut self.groups[place / 64];
-        group.bars.mark(true, bars, place % 64);
-        group.reached.mark(false, reached, place % 64);
-        group.least = group.least.min(norm);
-        group.most = group.most.max(norm);
-        Ok(())
-    }
-}
-
-impl Room {
-    /// Room for what is asked of a row with so many entries before its last.
-    fn new(alloc: Global, width: usize) -> Result<Room, AllocError>
-        requires { width ≤ 129 }
-        ensures probe { IfOk result (λ r. length r.probe.items ≡ width + 1) }
-        ensures bars { IfOk result (λ r. length r.bars.items ≡ 2 * width) }
-        ensures reached { IfOk result (λ r. length r.reached.items ≡ 2 * width) }
-    {
-        Ok(Room {
-            probe: vec![in alloc; 0; width + 1]?,
-            bars: vec![in alloc; 0; 2 * width]?,
-            reached: vec![in alloc; 0; 2 * width]?,
-            bar_reads: Vec::new(alloc),
-            reach_reads: Vec::new(alloc),
-            left: Left::new(alloc),
-        })
-    }
-
-    /// Asks a row that is to be sifted with a table. Rows near it are looked for only where more pairs are left without
-    /// them than the row has entries, and only at items that some of the rows that are left reach.
-    fn ask(
-        &mut self,
-        system: &System,
-        listed: &Pool,
-        tree: &Tree,
-        i: u32,
-        table: &Table,
-    ) -> Result<(), AllocError>
-        requires indexed { HoldsRows tree.now listed.now }
-        requires width { listed.now.width ≡ width system.now.equations + 1 }
-        requires row { i < length listed.now.rows }
-        requires sized { AreSized (16 * width system.now.equations) table.now.groups.items }
-        requires room { IsRoom system.now.equations self.old }
-        ensures room { IsRoom system.now.equations self.new }
-        ensures asked { OnOk result (AreAsked system.now.equations listed.now.rows (row_at listed.now.rows i) self.new) }
-    {
-        self.ask_row(system, listed, tree, i, table, false)?;
-        let width = system.width();
-        let count = 16 * width as usize;
-        let left = self
-            .left
-            .fill(table, count, &self.bar_reads, &self.reach_reads)?;
-        if left <= u64::from(width) {
-            return Ok(());
-        }
-        self.ask_row(system, listed, tree, i, table, true)
-    }
-
-    /// Asks a row, and for the rows near it where that is wanted: the rows of the table that are left are known then.
-    fn ask_row(
-        &mut self,
-        system: &System,
-        listed: &Pool,
-        tree: &Tree,
-        i: u32,
-        table: &Table,
-        near: bool,
-    ) -> Result<(), AllocError>
-        requires indexed { HoldsRows tree.now listed.now }
-        requires width { listed.now.width ≡ width system.now.equations + 1 }
-        requires row { i < length listed.now.rows }
-        requires room { IsRoom system.now.equations self.old }
-        ensures room { IsRoom system.now.equations self.new }
-        ensures asked { OnOk result (AreAsked system.now.equations listed.now.rows (row_at listed.now.rows i) self.new) }
-    {
-        let row = listed.row(RowId(i));
-        fill_bars(
-            system,
-            listed,
-            tree,
-            row,
-            table,
-            near,
-            &mut self.left,
-            &mut self.probe,
-            &mut self.bars,
-        );
-        fill_reached(row, &mut self.reached);
-        take_said(false, &self.reached, &mut self.bar_reads)?;
-        take_said(true, &self.bars, &mut self.reach_reads)
-    }
 }
 
 /// Sifts the pairs of a row with the rows of the other sign that a table has, of which those of the kept norms alone are
@@ -390,6 +157,7 @@ fn sift_row(
     system: &System,
     listed: &Pool,
     reaches: &[u64],
+    mirror: &[u32],
     positive: bool,
     i: u32,
     table: &Table,
@@ -402,6 +170,7 @@ fn sift_row(
     requires width { listed.now.width ≡ width system.now.equations + 1 }
     requires norms { AreNormed listed.now.rows }
     requires wide { AreWide (width system.now.equations + 1) listed.now.rows }
+    requires mirror { IsWholeOr listed.now.rows mirror.now }
     requires row { i < length reaches.now }
     requires places { AllByRecursion (λ j. j < length reaches.now) table.now.ids.items }
     requires few { length table.now.ids.items ≤ 2 ^ 21 }
@@ -412,7 +181,8 @@ fn sift_row(
     requires reach_reads { AreReads (BarsLine system.now.equations listed.now.rows (row_at listed.now.rows i)) (16 * width system.now.equations) reach_reads.now }
     ensures count { length shelves.new.shelves.items ≡ 256 }
     ensures stay { Stay shelves.old shelves.new }
-    ensures sifted { OnOk result (AreSiftedBy positive system.now.equations listed.now.rows shelves.new i table.now.ids.items) }
+    ensures sifted { OnOk result
+        (AreSiftedBy positive system.now.equations listed.now.rows shelves.new mirror.now i table.now.ids.items) }
 {
     let norm = norm_of(listed.row(RowId(i)), system.width() as usize);
     for group in 0..table.groups.len() {
@@ -424,7 +194,9 @@ fn sift_row(
         let to = table.ids.len().min(from + 64);
         let dead = lines.dead(bar_reads, reach_reads);
         let others = &table.ids[from..to];
-        sift_group(shelves, system, listed, reaches, positive, i, others, dead)?;
+        sift_group(
+            shelves, system, listed, reaches, mirror, positive, i, others, dead,
+        )?;
     }
     Ok(())
 }
@@ -448,13 +220,13 @@ fn sift_row_anew(
     requires norms { AreNormed listed.now.rows }
     requires wide { AreWide (width system.now.equations + 1) listed.now.rows }
     requires few { length listed.now.rows ≤ 2 ^ 21 }
-    requires plus { IsTable system.now.equations listed.now.rows has_positive_last (length reaches.now) plus.now }
-    requires minus { IsTable system.now.equations listed.now.rows has_negative_last (length reaches.now) minus.now }
+    requires plus { IsTable system.now.equations listed.now.rows (IsBefore listed.now.rows has_positive_last (length reaches.now)) (length reaches.now) plus.now }
+    requires minus { IsTable system.now.equations listed.now.rows (IsBefore listed.now.rows has_negative_last (length reaches.now)) (length reaches.now) minus.now }
     requires place { k < length plus.now.ids.items }
     ensures count { length shelves.new.shelves.items ≡ 256 }
     ensures stay { Stay shelves.old shelves.new }
     ensures sifted { OnOk result
-        (AreSiftedBy true system.now.equations listed.now.rows shelves.new (slice_index_or plus.now.ids.items k 0) minus.now.ids.items) }
+        (AreSiftedBy true system.now.equations listed.now.rows shelves.new [] (slice_index_or plus.now.ids.items k 0) minus.now.ids.items) }
 {
     let group = &plus.groups[k / 64];
     group.reached.take_marked(false, k % 64, bar_reads)?;
@@ -464,6 +236,7 @@ fn sift_row_anew(
         system,
         listed,
         reaches,
+        &[],
         true,
         plus.ids[k],
         minus,
@@ -489,8 +262,8 @@ fn sift_tables(
     requires norms { AreNormed listed.now.rows }
     requires wide { AreWide (width system.now.equations + 1) listed.now.rows }
     requires few { length listed.now.rows ≤ 2 ^ 21 }
-    requires plus { IsTable system.now.equations listed.now.rows has_positive_last (length reaches.now) plus.now }
-    requires minus { IsTable system.now.equations listed.now.rows has_negative_last (length reaches.now) minus.now }
+    requires plus { IsTable system.now.equations listed.now.rows (IsBefore listed.now.rows has_positive_last (length reaches.now)) (length reaches.now) plus.now }
+    requires minus { IsTable system.now.equations listed.now.rows (IsBefore listed.now.rows has_negative_last (length reaches.now)) (length reaches.now) minus.now }
     ensures count { length shelves.new.shelves.items ≡ 256 }
     ensures stay { Stay shelves.old shelves.new }
     ensures sifted { OnOk result (AreSifted system.now.equations listed.now.rows (length reaches.now) shelves.new) }
@@ -521,6 +294,7 @@ impl Sieve {
         Ok(Sieve {
             rows: 0,
             reaches: Vec::new(alloc),
+            mirror: Vec::new(alloc),
             plus: Table::new(alloc),
             minus: Table::new(alloc),
             shelves: Shelves::new(alloc)?,
@@ -534,6 +308,7 @@ impl Sieve {
     {
         self.rows = 0;
         self.reaches = Vec::new(alloc);
+        self.mirror = Vec::new(alloc);
         self.plus = Table::new(alloc);
         self.minus = Table::new(alloc);
         self.shelves.begin(alloc, 0, u64::MAX);
@@ -590,6 +365,7 @@ impl Sieve {
         requires wide { AreWide (width system.now.equations + 1) listed.now.rows }
         requires held { IsSieve system.now.equations listed.now.rows norm self.old }
         ensures shelves { length self.new.shelves.shelves.items ≡ 256 }
+        ensures reach_count { OnOk result (length self.new.reaches.items ≡ length listed.now.rows) }
         ensures upto { OnOk result (IsSieveTo system.now.equations listed.now.rows norm (length listed.now.rows) self.new) }
     {
         self.renew(alloc, system, listed, norm, next)?;
@@ -644,7 +420,7 @@ impl Sieve {
         self.shelves.at(norm)
     }
 
-    /// Sifts the pairs of the rows that were listed since, one row after another.
+    /// Sifts the pairs of the rows that were listed since.
     fn sift_rows(
         &mut self,
         alloc: Global,
@@ -660,13 +436,174 @@ impl Sieve {
         requires norms { AreNormed listed.now.rows }
         requires wide { AreWide (width system.now.equations + 1) listed.now.rows }
         requires within { self.old.rows ≤ length listed.now.rows }
+        requires reach_count { length self.old.reaches.items ≡ self.old.rows }
         requires upto { IsSieveTo system.now.equations listed.now.rows norm self.old.rows self.old }
         ensures shelves { length self.new.shelves.shelves.items ≡ 256 }
+        ensures reach_count { OnOk result (length self.new.reaches.items ≡ length listed.now.rows) }
         ensures upto { OnOk result (IsSieveTo system.now.equations listed.now.rows norm (length listed.now.rows) self.new) }
     {
         let mut room = Room::new(alloc, system.width() as usize)?;
+        self.find_reaches(listed, tree, &mut room.probe)?;
+        if self.turn_rows(alloc, listed)? {
+            self.sift_couples(alloc, system, listed, tree, norm, &mut room)
+        } else {
+            self.sift_singly(alloc, system, listed, tree, norm, &mut room)
+        }
+    }
+
+    /// Finds the reaches of the rows that were listed since.
+    fn find_reaches(
+        &mut self,
+        listed: &Pool,
+        tree: &Tree,
+        probe: &mut [i64],
+    ) -> Result<(), AllocError>
+        requires indexed { HoldsRows tree.now listed.now }
+        requires some { 0 < listed.now.width }
+        requires probe { length probe.old ≡ listed.now.width }
+        requires within { self.old.rows ≤ length listed.now.rows }
+        requires reach_count { length self.old.reaches.items ≡ self.old.rows }
+        requires reaches { AreReaches listed.now.rows self.old.reaches.items }
+        ensures probe { length probe.new ≡ length probe.old }
+        ensures same { HasNewReaches self.old self.new }
+        ensures reach_count { OnOk result (length self.new.reaches.items ≡ length listed.now.rows) }
+        ensures reaches { OnOk result (AreReaches listed.now.rows self.new.reaches.items) }
+    {
         for i in self.rows..listed.len() {
-            self.sift_next(alloc, system, listed, tree, norm, i, &mut room)?;
+            self.reaches.push(reach_at(listed, tree, i, probe))?;
+        }
+        Ok(())
+    }
+
+    /// Notes the negatives of the rows that were listed since, where each has one, and so had those before. Else no
+    /// negatives are known from now on.
+    fn turn_rows(&mut self, alloc: Global, listed: &Pool) -> Result<bool, AllocError>
+        requires within { self.old.rows ≤ length listed.now.rows }
+        requires some { 0 < listed.now.width }
+        requires mirror { IsMirror listed.now.rows self.old.mirror.items }
+        ensures same { HasNewMirror self.old self.new }
+        ensures turned { IfOk result (λ known. IsTrue known → IsTurnedTo listed.now.rows self.old.rows self.new.mirror.items) }
+        ensures mirror { IfOk result (λ known. IsFalse known → self.new.mirror.items ≡ []) }
+    {
+        if self.mirror.len() != self.rows as usize || !are_turned(listed, self.rows) {
+            self.mirror = Vec::new(alloc);
+            return Ok(false);
+        }
+        add_turned(&mut self.mirror, self.rows, listed.len())?;
+        Ok(true)
+    }
+
+    /// Sifts the pairs of the rows that were listed since, a row and its negative at a time.
+    fn sift_couples(
+        &mut self,
+        alloc: Global,
+        system: &System,
+        listed: &Pool,
+        tree: &Tree,
+        norm: u64,
+        room: &mut Room,
+    ) -> Result<(), AllocError>
+        requires indexed { HoldsRows tree.now listed.now }
+        requires width { listed.now.width ≡ width system.now.equations + 1 }
+        requires narrow { width system.now.equations ≤ 129 }
+        requires few { length listed.now.rows ≤ 2 ^ 21 }
+        requires norms { AreNormed listed.now.rows }
+        requires wide { AreWide (width system.now.equations + 1) listed.now.rows }
+        requires within { self.old.rows ≤ length listed.now.rows }
+        requires reach_count { length self.old.reaches.items ≡ length listed.now.rows }
+        requires turned { IsTurnedTo listed.now.rows self.old.rows self.old.mirror.items }
+        requires upto { IsSieveTo system.now.equations listed.now.rows norm self.old.rows self.old }
+        requires room { IsRoom system.now.equations room.old }
+        ensures shelves { length self.new.shelves.shelves.items ≡ 256 }
+        ensures reach_count { OnOk result (length self.new.reaches.items ≡ length listed.now.rows) }
+        ensures upto { OnOk result (IsSieveTo system.now.equations listed.now.rows norm (length listed.now.rows) self.new) }
+    {
+        let width = system.width() as usize;
+        for i in self.rows..listed.len() {
+            if !has_sign(listed.row(RowId(i)), width, true) {
+                continue;
+            }
+            self.sift_couple(alloc, system, listed, tree, norm, i, room)?;
+        }
+        Ok(())
+    }
+
+    /// Sifts the pairs of a row with last entry above 0, and so those of its negative, and takes both into their tables.
+    fn sift_couple(
+        &mut self,
+        alloc: Global,
+        system: &System,
+        listed: &Pool,
+        tree: &Tree,
+        norm: u64,
+        i: u32,
+        room: &mut Room,
+    ) -> Result<(), AllocError>
+        requires indexed { HoldsRows tree.now listed.now }
+        requires width { listed.now.width ≡ width system.now.equations + 1 }
+        requires narrow { width system.now.equations ≤ 129 }
+        requires few { length listed.now.rows ≤ 2 ^ 21 }
+        requires norms { AreNormed listed.now.rows }
+        requires wide { AreWide (width system.now.equations + 1) listed.now.rows }
+        requires row { i < length listed.now.rows }
+        requires sign { has_positive_last (row_at listed.now.rows i) ≡ true }
+        requires reach_count { length self.old.reaches.items ≡ length listed.now.rows }
+        requires coupled { AreCoupledTo system.now.equations listed.now.rows norm i self.old }
+        requires room { IsRoom system.now.equations room.old }
+        ensures room { IsRoom system.now.equations room.new }
+        ensures shelves { length self.new.shelves.shelves.items ≡ 256 }
+        ensures same { (self.new.rows ≡ self.old.rows) × (self.new.reaches ≡ self.old.reaches) × (self.new.mirror ≡ self.old.mirror) }
+        ensures coupled { OnOk result (AreCoupledTo system.now.equations listed.now.rows norm (i + 1) self.new) }
+    {
+        room.ask(system, listed, tree, i, &self.minus)?;
+        let width = system.width() as usize;
+        let own = norm_of(listed.row(RowId(i)), width);
+        let negative = self.mirror[i as usize];
+        sift_row(
+            &mut self.shelves,
+            system,
+            listed,
+            &self.reaches,
+            &self.mirror,
+            true,
+            i,
+            &self.minus,
+            &room.bar_reads,
+            &room.reach_reads,
+        )?;
+        keep_rows(&mut self.shelves, listed, width, &[], true, i, negative)?;
+        self.plus.push(alloc, i, own, &room.bars, &room.reached)?;
+        room.turn(system, listed, negative);
+        self.minus
+            .push(alloc, negative, own, &room.turned, &room.reached)
+    }
+
+    /// Sifts the pairs of the rows that were listed since, one row after another.
+    fn sift_singly(
+        &mut self,
+        alloc: Global,
+        system: &System,
+        listed: &Pool,
+        tree: &Tree,
+        norm: u64,
+        room: &mut Room,
+    ) -> Result<(), AllocError>
+        requires indexed { HoldsRows tree.now listed.now }
+        requires width { listed.now.width ≡ width system.now.equations + 1 }
+        requires narrow { width system.now.equations ≤ 129 }
+        requires few { length listed.now.rows ≤ 2 ^ 21 }
+        requires norms { AreNormed listed.now.rows }
+        requires wide { AreWide (width system.now.equations + 1) listed.now.rows }
+        requires within { self.old.rows ≤ length listed.now.rows }
+        requires reach_count { length self.old.reaches.items ≡ length listed.now.rows }
+        requires upto { IsSieveTo system.now.equations listed.now.rows norm self.old.rows self.old }
+        requires room { IsRoom system.now.equations room.old }
+        ensures shelves { length self.new.shelves.shelves.items ≡ 256 }
+        ensures reach_count { OnOk result (length self.new.reaches.items ≡ length listed.now.rows) }
+        ensures upto { OnOk result (IsSieveTo system.now.equations listed.now.rows norm (length listed.now.rows) self.new) }
+    {
+        for i in self.rows..listed.len() {
+            self.sift_next(alloc, system, listed, tree, norm, i, room)?;
         }
         Ok(())
     }
@@ -689,10 +626,12 @@ impl Sieve {
         requires norms { AreNormed listed.now.rows }
         requires wide { AreWide (width system.now.equations + 1) listed.now.rows }
         requires row { i < length listed.now.rows }
+        requires reach_count { length self.old.reaches.items ≡ length listed.now.rows }
         requires upto { IsSieveTo system.now.equations listed.now.rows norm i self.old }
         requires room { IsRoom system.now.equations room.old }
         ensures room { IsRoom system.now.equations room.new }
         ensures shelves { length self.new.shelves.shelves.items ≡ 256 }
+        ensures reach_count { length self.new.reaches.items ≡ length listed.now.rows }
         ensures upto { OnOk result (IsSieveTo system.now.equations listed.now.rows norm (i + 1) self.new) }
     {
         let width = system.width() as usize;
@@ -702,7 +641,6 @@ impl Sieve {
         if has_sign(listed.row(RowId(i)), width, false) {
             return self.sift_under(alloc, system, listed, tree, norm, i, room);
         }
-        self.reaches.push(0)?;
         Ok(())
     }
 
@@ -725,22 +663,22 @@ impl Sieve {
         requires wide { AreWide (width system.now.equations + 1) listed.now.rows }
         requires row { i < length listed.now.rows }
         requires sign { has_positive_last (row_at listed.now.rows i) ≡ true }
+        requires reach_count { length self.old.reaches.items ≡ length listed.now.rows }
         requires upto { IsSieveTo system.now.equations listed.now.rows norm i self.old }
         requires room { IsRoom system.now.equations room.old }
         ensures room { IsRoom system.now.equations room.new }
         ensures shelves { length self.new.shelves.shelves.items ≡ 256 }
+        ensures reach_count { length self.new.reaches.items ≡ length listed.now.rows }
         ensures upto { OnOk result (IsSieveTo system.now.equations listed.now.rows norm (i + 1) self.new) }
     {
         room.ask(system, listed, tree, i, &self.minus)?;
-        let row = listed.row(RowId(i));
-        let own = norm_of(row, system.width() as usize);
-        let reach = reach_of(listed, tree, row, &mut room.probe);
-        self.reaches.push(reach)?;
+        let own = norm_of(listed.row(RowId(i)), system.width() as usize);
         sift_row(
             &mut self.shelves,
             system,
             listed,
             &self.reaches,
+            &[],
             true,
             i,
             &self.minus,
@@ -769,22 +707,22 @@ impl Sieve {
         requires wide { AreWide (width system.now.equations + 1) listed.now.rows }
         requires row { i < length listed.now.rows }
         requires sign { has_negative_last (row_at listed.now.rows i) ≡ true }
+        requires reach_count { length self.old.reaches.items ≡ length listed.now.rows }
         requires upto { IsSieveTo system.now.equations listed.now.rows norm i self.old }
         requires room { IsRoom system.now.equations room.old }
         ensures room { IsRoom system.now.equations room.new }
         ensures shelves { length self.new.shelves.shelves.items ≡ 256 }
+        ensures reach_count { length self.new.reaches.items ≡ length listed.now.rows }
         ensures upto { OnOk result (IsSieveTo system.now.equations listed.now.rows norm (i + 1) self.new) }
     {
         room.ask(system, listed, tree, i, &self.plus)?;
-        let row = listed.row(RowId(i));
-        let own = norm_of(row, system.width() as usize);
-        let reach = reach_of(listed, tree, row, &mut room.probe);
-        self.reaches.push(reach)?;
+        let own = norm_of(listed.row(RowId(i)), system.width() as usize);
         sift_row(
             &mut self.shelves,
             system,
             listed,
             &self.reaches,
+            &[],
             false,
             i,
             &self.plus,

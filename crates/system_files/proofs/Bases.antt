@@ -11,7 +11,7 @@ use Rattle.lift_core.specs.Columns.{HasSign, IsCapped, Every}
 use Rattle.lift_core.specs.Systems.{IsMinimal}
 use Rattle.lift_core.proofs.Written.{one_leads_negative}
 use Rattle.lift_core.proofs.Cells.{length-cut_rows}
-use Rattle.system_shape.specs.Problem.{UserSystem, Stands, differences, full_vector, IsUserSolution, IsWrittenForUser}
+use Rattle.system_shape.specs.Problem.{UserSystem, Stands, differences, full_vector, IsUserSolution, IsMinimalOfKind}
 use Rattle.system_shape.specs.Shape.{user_rows}
 use Rattle.system_files.specs.Kernel.{rows_in, IsInKernel, IsKernelVector}
 use Rattle.system_files.specs.Basis.{IsGraverBasis}
@@ -19,7 +19,7 @@ use Rattle.system_files.proofs.Kernels.{minimal_negated}
 
 -- the user's system of n free columns and these equations
 abbrev pub free_system : ℕ → ℕ → List (List ℤ) → UserSystem
-free_system n m rows = record { signs = replicate n (pos 2); caps = replicate n None; rows = user_rows rows (replicate m Equal) (replicate m (pos 0)); x0 = false }
+free_system n m rows = record { signs = replicate n (pos 2); caps = replicate n None; rows = user_rows rows (replicate m Equal) (replicate m (pos 0)); has_x0 = false }
 
 free_signs : (n : ℕ) (v : List ℤ) → length v ≡ n → AllZip HasSign (replicate n (pos 2)) v
 free_signs zero [] h = tt
@@ -64,7 +64,7 @@ module _ (n m : ℕ) (rows : List (List ℤ)) (count : length rows ≡ m) where
 
   user_from_kernel : (v : List ℤ) → IsKernelVector n rows v → IsUserSolution (free_system n m rows) (pos 0) v
   user_from_kernel v h = record {
-    x0 = refl;
+    factor = refl;
     solves = record { signs = free_signs n v h.columns; caps = free_caps n v h.columns; rows = rows_hold m rows v count h.kernel };
   }
 
@@ -72,12 +72,12 @@ module _ (n m : ℕ) (rows : List (List ℤ)) (count : length rows ≡ m) where
   kernel_from_user c v h = record {
     columns = sym (length_all_zip HasSign (replicate n (pos 2)) v h.solves.signs) ∙ length-replicated n (pos 2);
     kernel = rows_give m rows v count
-        (subst (λ (d : ℤ). AllByRecursion (λ r. Stands r.relation (dot r.coefficients v) (r.right *ℤ d)) (user_rows rows (replicate m Equal) (replicate m (pos 0)))) h.x0 h.solves.rows);
+        (subst (λ (d : ℤ). AllByRecursion (λ r. Stands r.relation (dot r.coefficients v) (r.right *ℤ d)) (user_rows rows (replicate m Equal) (replicate m (pos 0)))) h.factor h.solves.rows);
   }
 
-  minimal_from_user : (v : List ℤ) → IsWrittenForUser (free_system n m rows) Every v → IsMinimal (IsKernelVector n rows) v
+  minimal_from_user : (v : List ℤ) → IsMinimalOfKind (free_system n m rows) Every v → IsMinimal (IsKernelVector n rows) v
   minimal_from_user v h =
-      let c = h.times in record {
+      let c = h.c in record {
         member = kernel_from_user c v h.minimal.solution;
         nonzero = λ z. h.minimal.nonzero (subst IsZero (sym (full_is c v)) z);
         least = λ w p nonzero b.
@@ -85,15 +85,15 @@ module _ (n m : ℕ) (rows : List (List ℤ)) (count : length rows ≡ m) where
             (subst (λ (x : List ℤ). x ⊑ full_vector (free_system n m rows) c v) (sym (full_is (pos 0) w)) (subst (λ (x : List ℤ). w ⊑ x) (sym (full_is c v)) b))).1;
       }
 
-  user_from_minimal : (v : List ℤ) → IsMinimal (IsKernelVector n rows) v → IsWrittenForUser (free_system n m rows) Every v
+  user_from_minimal : (v : List ℤ) → IsMinimal (IsKernelVector n rows) v → IsMinimalOfKind (free_system n m rows) Every v
   user_from_minimal v h = record {
-    times = pos 0;
+    c = pos 0;
     of_kind = tt;
     minimal = record {
       solution = user_from_kernel v h.member;
       nonzero = λ z. h.nonzero (subst IsZero (full_is (pos 0) v) z);
       least = λ d w s nonzero b. (
-        s.x0,
+        s.factor,
         h.least w (kernel_from_user d w s) (λ z. nonzero (subst IsZero (sym (full_is d w)) z))
             (subst (λ (x : List ℤ). x ⊑ v) (full_is d w) (subst (λ (x : List ℤ). full_vector (free_system n m rows) d w ⊑ x) (full_is (pos 0) v) b)),
       );

@@ -34,7 +34,7 @@ use Rattle.system_shape.proofs.UserRows.{length-user_rows, slack_count-user_rows
 -- a user's system of 1 to 64 columns and at most 64 rows, whose numbers are in range
 pub record IsAccepted (tool : Tool) (U : UserSystem) : Type 0 where
   pub well : IsWellFormed U
-  pub x0 : U.x0 ≡ has_x0 tool
+  pub x0 : U.has_x0 ≡ has_x0 tool
   pub caps : All IsCap U.caps
   pub some_columns : 1 ≤ length U.signs
   pub most_columns : length U.signs ≤ 64
@@ -134,12 +134,12 @@ as_many_x0 true = refl
 as_many_x0 false = refl
 
 module _ (tool : Tool) (U : UserSystem) (a : IsAccepted tool U) where
-  width_is : length (linear_system U).signs ≡ length U.signs + (slack_count U.rows + length (x0_signs U.x0))
+  width_is : length (linear_system U).signs ≡ length U.signs + (slack_count U.rows + length (x0_signs U.has_x0))
   width_is =
       omega (
         arith,
-        length-append U.signs (replicate (slack_count U.rows) (pos 1) ++ x0_signs U.x0),
-        length-append (replicate (slack_count U.rows) (pos 1)) (x0_signs U.x0),
+        length-append U.signs (replicate (slack_count U.rows) (pos 1) ++ x0_signs U.has_x0),
+        length-append (replicate (slack_count U.rows) (pos 1)) (x0_signs U.has_x0),
         length-replicate (slack_count U.rows) (pos 1),
       )
 
@@ -147,34 +147,34 @@ module _ (tool : Tool) (U : UserSystem) (a : IsAccepted tool U) where
   first_columns = omega (arith, width_is)
 
   pub most_width : length (linear_system U).signs ≤ 129
-  most_width = omega (arith, width_is, few_slacks U.rows, a.most_rows, a.most_columns, one_x0 U.x0)
+  most_width = omega (arith, width_is, few_slacks U.rows, a.most_rows, a.most_columns, one_x0 U.has_x0)
 
   some_width : 0 < length (linear_system U).signs
   some_width = omega (arith, first_columns, a.some_columns)
 
   rows_same_width : AllByRecursion (λ w. length w ≡ length (linear_system U).signs) (linear_system U).rows
-  rows_same_width = subst (λ n. AllByRecursion (λ w. length w ≡ n) (linear_system U).rows) (sym width_is) (rows_long U.x0 U.rows (length U.signs) a.well.rows)
+  rows_same_width = subst (λ n. AllByRecursion (λ w. length w ≡ n) (linear_system U).rows) (sym width_is) (rows_long U.has_x0 U.rows (length U.signs) a.well.rows)
 
   as_many : length (linear_system U).rows ≡ length U.rows
-  as_many = rows_count U.x0 U.rows (slack_parts U.rows) (parts_count U.rows)
+  as_many = rows_count U.has_x0 U.rows (slack_parts U.rows) (parts_count U.rows)
 
-  pub entries_count : length (cells_from U.x0 0 U.rows) ≡ length U.rows * length (linear_system U).signs
+  pub entries_count : length (cells_from U.has_x0 0 U.rows) ≡ length U.rows * length (linear_system U).signs
   entries_count =
-      ap length (cells_are_rows U.x0 U.rows) ∙ length-joined (length (linear_system U).signs) (linear_system U).rows rows_same_width ∙ ap (λ m. m * length (linear_system U).signs) as_many
+      ap length (cells_are_rows U.has_x0 U.rows) ∙ length-joined (length (linear_system U).signs) (linear_system U).rows rows_same_width ∙ ap (λ m. m * length (linear_system U).signs) as_many
 
-  pub whole_rows : length (cells_from U.x0 0 U.rows) % length (linear_system U).signs ≡ 0
+  pub whole_rows : length (cells_from U.has_x0 0 U.rows) % length (linear_system U).signs ≡ 0
   whole_rows = ap (λ k. k % length (linear_system U).signs) entries_count ∙ mul-mod_left (length U.rows) (length (linear_system U).signs)
 
-  pub few_entries : length (cells_from U.x0 0 U.rows) ≤ 64 * length (linear_system U).signs
+  pub few_entries : length (cells_from U.has_x0 0 U.rows) ≤ 64 * length (linear_system U).signs
   few_entries = omega (arith, entries_count, mul-le-mul_right (length (linear_system U).signs) a.most_rows)
 
-  pub entries_small : All InRange (cells_from U.x0 0 U.rows)
-  entries_small = cells_small U.x0 0 U.rows a.coefficients a.rights
+  pub entries_small : All InRange (cells_from U.has_x0 0 U.rows)
+  entries_small = cells_small U.has_x0 0 U.rows a.coefficients a.rights
 
   pub signs_known : All IsSign (linear_system U).signs
   signs_known =
-      All-append IsSign U.signs (replicate (slack_count U.rows) (pos 1) ++ x0_signs U.x0) a.signs
-      (All-append IsSign (replicate (slack_count U.rows) (pos 1)) (x0_signs U.x0) (All-replicate IsSign (slack_count U.rows) (pos 1) (inl refl)) (x0_known U.x0))
+      All-append IsSign U.signs (replicate (slack_count U.rows) (pos 1) ++ x0_signs U.has_x0) a.signs
+      (All-append IsSign (replicate (slack_count U.rows) (pos 1)) (x0_signs U.has_x0) (All-replicate IsSign (slack_count U.rows) (pos 1) (inl refl)) (x0_known U.has_x0))
 
   pub cap_count : length (linear_system U).caps ≡ length (linear_system U).signs
   cap_count =
@@ -182,32 +182,32 @@ module _ (tool : Tool) (U : UserSystem) (a : IsAccepted tool U) where
         arith,
         width_is,
         a.well.caps,
-        as_many_x0 U.x0,
-        length-append U.caps (replicate (slack_count U.rows) None ++ x0_caps U.x0),
-        length-append (replicate (slack_count U.rows) None) (x0_caps U.x0),
+        as_many_x0 U.has_x0,
+        length-append U.caps (replicate (slack_count U.rows) None ++ x0_caps U.has_x0),
+        length-append (replicate (slack_count U.rows) None) (x0_caps U.has_x0),
         length-replicate {A = Option ℕ} (slack_count U.rows) None,
       )
 
   pub caps_fit : AreCaps tool (length U.signs) (linear_system U).caps
   caps_fit =
       let s : ℕ = slack_count U.rows in
-      let rest : List (Option ℕ) = replicate s None ++ x0_caps U.x0 in
-      let left : length (linear_system U).caps - length U.signs ≡ s + length (x0_signs U.x0) = omega (arith, cap_count, width_is) in
+      let rest : List (Option ℕ) = replicate s None ++ x0_caps U.has_x0 in
+      let left : length (linear_system U).caps - length U.signs ≡ s + length (x0_signs U.has_x0) = omega (arith, cap_count, width_is) in
       record {
-        known = All-append IsCap U.caps rest a.caps (All-append IsCap (replicate s None) (x0_caps U.x0) (All-replicate IsCap s None tt) (x0_cap_known U.x0));
+        known = All-append IsCap U.caps rest a.caps (All-append IsCap (replicate s None) (x0_caps U.has_x0) (All-replicate IsCap s None tt) (x0_cap_known U.has_x0));
         behind = ap (λ n. drop n (U.caps ++ rest)) (sym a.well.caps) ∙ drop-append_seam U.caps rest ∙ ap (λ h. replicate s None ++ x0_caps h) a.x0 ∙ behind_same tool s
             ∙ ap (λ h. caps_behind tool (s + length (x0_signs h))) (sym a.x0) ∙ ap (caps_behind tool) (sym left);
       }
 
-  same_rows : cut_rows (length (cells_from U.x0 0 U.rows) / length (linear_system U).signs) (length (linear_system U).signs) (cells_from U.x0 0 U.rows) ≡ (linear_system U).rows
+  same_rows : cut_rows (length (cells_from U.has_x0 0 U.rows) / length (linear_system U).signs) (length (linear_system U).signs) (cells_from U.has_x0 0 U.rows) ≡ (linear_system U).rows
   same_rows =
       let w : ℕ = length (linear_system U).signs in
-      let count : length (cells_from U.x0 0 U.rows) / w ≡ length (linear_system U).rows =
+      let count : length (cells_from U.has_x0 0 U.rows) / w ≡ length (linear_system U).rows =
       ap (λ k. k / w) entries_count ∙ mul-div_cancel (length U.rows) {n = w} some_width ∙ sym as_many in
-      ap₂ (λ m cells. cut_rows m w cells) count (cells_are_rows U.x0 U.rows) ∙ cut_rows-joined w (linear_system U).rows rows_same_width
+      ap₂ (λ m cells. cut_rows m w cells) count (cells_are_rows U.has_x0 U.rows) ∙ cut_rows-joined w (linear_system U).rows rows_same_width
 
   -- the system that is built from these signs, caps and entries
-  pub built : (n : ℕ) (signs : List ℤ) (caps : List (Option ℕ)) (cells : List ℤ) (w : ℕ) → signs ≡ (linear_system U).signs → caps ≡ (linear_system U).caps → cells ≡ cells_from U.x0 0 U.rows → w ≡ length signs
+  pub built : (n : ℕ) (signs : List ℤ) (caps : List (Option ℕ)) (cells : List ℤ) (w : ℕ) → signs ≡ (linear_system U).signs → caps ≡ (linear_system U).caps → cells ≡ cells_from U.has_x0 0 U.rows → w ≡ length signs
       → entries_system tool n signs caps (length cells / w) cells ≡ record { tool = tool; n = n; equations = linear_system U }
   built n signs caps cells w is_signs is_caps is_cells is_width =
       let whole : List ℤ → List ℤ → ToolSystem = λ s t. entries_system tool n s caps (length t / length s) t in

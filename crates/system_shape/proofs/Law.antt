@@ -137,28 +137,28 @@ parts_long_as (p ∷ parts) n m e h = (h.0 ∙ e, parts_long_as parts n m e h.1)
 
 module _ (U : UserSystem) (well : IsWellFormed U) where
   all_rows : take (length U.rows) (linear_system U).rows ≡ (linear_system U).rows
-  all_rows = ap (λ n. take n (linear_system U).rows) (sym (rows_count U.x0 U.rows (slack_parts U.rows) (parts_count U.rows))) ∙ take-length (linear_system U).rows
+  all_rows = ap (λ n. take n (linear_system U).rows) (sym (rows_count U.has_x0 U.rows (slack_parts U.rows) (parts_count U.rows))) ∙ take-length (linear_system U).rows
 
-  pub full_solves : (c : ℤ) (x : List ℤ) → IsX0 U.x0 c → SolvesUser U c x → Solves (linear_system U) (length U.rows) (full_vector U c x)
+  pub full_solves : (c : ℤ) (x : List ℤ) → IsX0 U.has_x0 c → SolvesUser U c x → Solves (linear_system U) (length U.rows) (full_vector U c x)
   full_solves c x x0 h =
       let n : ℕ = slack_count U.rows in
       let g : Given c x U.rows (slack_parts U.rows) n (differences U.rows c x) = slacks_in c x U.rows h.rows in
       let s : List ℤ = differences U.rows c x in
       let lx : length U.signs ≡ length x = length_all_zip HasSign U.signs x h.signs in
       record {
-        signs = zip_append HasSign U.signs (replicate n (pos 1) ++ x0_signs U.x0) x (s ++ x0_entry U.x0 c) h.signs
-            (zip_append HasSign (replicate n (pos 1)) (x0_signs U.x0) s (x0_entry U.x0 c) (ones_in n s g.long g.positive) (x0_sign_in U.x0 c x0));
-        caps = zip_append IsCapped U.caps (replicate n None ++ x0_caps U.x0) x (s ++ x0_entry U.x0 c) h.caps
-            (zip_append IsCapped (replicate n None) (x0_caps U.x0) s (x0_entry U.x0 c) (free_in n s g.long) (x0_cap_in U.x0 c x0));
+        signs = zip_append HasSign U.signs (replicate n (pos 1) ++ x0_signs U.has_x0) x (s ++ x0_entry U.has_x0 c) h.signs
+            (zip_append HasSign (replicate n (pos 1)) (x0_signs U.has_x0) s (x0_entry U.has_x0 c) (ones_in n s g.long g.positive) (x0_sign_in U.has_x0 c x0));
+        caps = zip_append IsCapped U.caps (replicate n None ++ x0_caps U.has_x0) x (s ++ x0_entry U.has_x0 c) h.caps
+            (zip_append IsCapped (replicate n None) (x0_caps U.has_x0) s (x0_entry U.has_x0 c) (free_in n s g.long) (x0_cap_in U.has_x0 c x0));
         rows = subst (AllByRecursion (λ w. dot w (full_vector U c x) ≡ pos 0)) (sym all_rows)
-            (rows_in U.x0 c x0 x s U.rows (slack_parts U.rows) (coefficients_long U.rows (length U.signs) (length x) lx well.rows) (parts_long_as (slack_parts U.rows) n (length s) (sym g.long) (parts_long U.rows)) g.hold);
+            (rows_in U.has_x0 c x0 x s U.rows (slack_parts U.rows) (coefficients_long U.rows (length U.signs) (length x) lx well.rows) (parts_long_as (slack_parts U.rows) n (length s) (sym g.long) (parts_long U.rows)) g.hold);
       }
 
-  pub is_full : (v : List ℤ) → Solves (linear_system U) (length U.rows) v → (c : ℤ) × (x : List ℤ) × IsX0 U.x0 c × SolvesUser U c x × (v ≡ full_vector U c x)
+  pub is_full : (v : List ℤ) → Solves (linear_system U) (length U.rows) v → (c : ℤ) × (x : List ℤ) × IsX0 U.has_x0 c × SolvesUser U c x × (v ≡ full_vector U c x)
   is_full v h =
       let n : ℕ = slack_count U.rows in
-      let a : Split HasSign U.signs (replicate n (pos 1) ++ x0_signs U.x0) v = zip_split HasSign U.signs (replicate n (pos 1) ++ x0_signs U.x0) v h.signs in
-      let b : Split HasSign (replicate n (pos 1)) (x0_signs U.x0) a.back = zip_split HasSign (replicate n (pos 1)) (x0_signs U.x0) a.back a.second in
+      let a : Split HasSign U.signs (replicate n (pos 1) ++ x0_signs U.has_x0) v = zip_split HasSign U.signs (replicate n (pos 1) ++ x0_signs U.has_x0) v h.signs in
+      let b : Split HasSign (replicate n (pos 1)) (x0_signs U.has_x0) a.back = zip_split HasSign (replicate n (pos 1)) (x0_signs U.has_x0) a.back a.second in
       let x : List ℤ = a.front in
       let s : List ℤ = b.front in
       let e : List ℤ = b.back in
@@ -166,18 +166,18 @@ module _ (U : UserSystem) (well : IsWellFormed U) where
       let ls : length (replicate n (pos 1)) ≡ length s = length_all_zip HasSign (replicate n (pos 1)) s b.first in
       let long : n ≡ length s = sym (length-replicate n (pos 1)) ∙ ls in
       let is : v ≡ x ++ (s ++ e) = a.is ∙ ap (λ w. x ++ w) b.is in
-      let caps : AllZip IsCapped (U.caps ++ (replicate n None ++ x0_caps U.x0)) (x ++ (s ++ e)) = subst (AllZip IsCapped (U.caps ++ (replicate n None ++ x0_caps U.x0))) is h.caps in
-      let p : AllZip IsCapped U.caps x × AllZip IsCapped (replicate n None ++ x0_caps U.x0) (s ++ e) = zip_parts IsCapped U.caps (replicate n None ++ x0_caps U.x0) x (s ++ e) (well.caps ∙ lx) caps in
-      let q : AllZip IsCapped (replicate n None) s × AllZip IsCapped (x0_caps U.x0) e = zip_parts IsCapped (replicate n None) (x0_caps U.x0) s e (length-replicate n None ∙ long) p.1 in
-      let o : (c : ℤ) × IsX0 U.x0 c × (e ≡ x0_entry U.x0 c) = x0_out U.x0 e b.second q.1 in
+      let caps : AllZip IsCapped (U.caps ++ (replicate n None ++ x0_caps U.has_x0)) (x ++ (s ++ e)) = subst (AllZip IsCapped (U.caps ++ (replicate n None ++ x0_caps U.has_x0))) is h.caps in
+      let p : AllZip IsCapped U.caps x × AllZip IsCapped (replicate n None ++ x0_caps U.has_x0) (s ++ e) = zip_parts IsCapped U.caps (replicate n None ++ x0_caps U.has_x0) x (s ++ e) (well.caps ∙ lx) caps in
+      let q : AllZip IsCapped (replicate n None) s × AllZip IsCapped (x0_caps U.has_x0) e = zip_parts IsCapped (replicate n None) (x0_caps U.has_x0) s e (length-replicate n None ∙ long) p.1 in
+      let o : (c : ℤ) × IsX0 U.has_x0 c × (e ≡ x0_entry U.has_x0 c) = x0_out U.has_x0 e b.second q.1 in
       let c : ℤ = o.0 in
-      let whole : v ≡ x ++ (s ++ x0_entry U.x0 c) = is ∙ ap (λ w. x ++ (s ++ w)) o.2 in
-      let rows : AllByRecursion (λ w. dot w (x ++ (s ++ x0_entry U.x0 c)) ≡ pos 0) (linear_system U).rows = subst₂ (λ (w : List ℤ) (l : List (List ℤ)). AllByRecursion (λ r. dot r w ≡ pos 0) l) whole all_rows h.rows in
-      let holds : AllZip (Holds c x s) U.rows (slack_parts U.rows) = rows_out U.x0 c o.1 x s U.rows (slack_parts U.rows) (parts_count U.rows) (coefficients_long U.rows (length U.signs) (length x) lx well.rows) (parts_long_as (slack_parts U.rows) n (length s) long (parts_long U.rows)) rows in
+      let whole : v ≡ x ++ (s ++ x0_entry U.has_x0 c) = is ∙ ap (λ w. x ++ (s ++ w)) o.2 in
+      let rows : AllByRecursion (λ w. dot w (x ++ (s ++ x0_entry U.has_x0 c)) ≡ pos 0) (linear_system U).rows = subst₂ (λ (w : List ℤ) (l : List (List ℤ)). AllByRecursion (λ r. dot r w ≡ pos 0) l) whole all_rows h.rows in
+      let holds : AllZip (Holds c x s) U.rows (slack_parts U.rows) = rows_out U.has_x0 c o.1 x s U.rows (slack_parts U.rows) (parts_count U.rows) (coefficients_long U.rows (length U.signs) (length x) lx well.rows) (parts_long_as (slack_parts U.rows) n (length s) long (parts_long U.rows)) rows in
       let r : AllByRecursion (Stand c x) U.rows × (s ≡ differences U.rows c x) = slacks_out c x U.rows s (sym long) (ones_out n s b.first) holds in (
         c,
         x,
         o.1,
         record { signs = a.first; caps = p.0; rows = r.0 },
-        whole ∙ ap (λ w. x ++ (w ++ x0_entry U.x0 c)) r.1,
+        whole ∙ ap (λ w. x ++ (w ++ x0_entry U.has_x0 c)) r.1,
       )

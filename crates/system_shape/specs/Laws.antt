@@ -1,11 +1,11 @@
 -- The laws between the user's system and the linear system that stands for it.
 use Rattle.std.specs.Prelude.{◌≡◌, ◌↔◌, ℕ, List, ℤ, pos, take, length, Bool, true, false, ⊤}
 use Rattle.std.specs.List.{AllByRecursion}
-use Rattle.lift_core.specs.Columns.{Kind, Homogeneous, Inhomogeneous, Every}
+use Rattle.lift_core.specs.Columns.{SolutionKind, Homogeneous, Inhomogeneous, Every}
 use Rattle.lift_core.specs.Systems.{Solves}
 use Rattle.lift_core.specs.Stages.{last}
 use Rattle.lift_core.specs.Inside.Written.{IsWrittenOf, IsWanted, IsWantedGraver}
-use Rattle.system_shape.specs.Problem.{UserSystem, IsX0, SolvesUser, full_vector, IsUserSolution, IsWrittenForUser, IsWantedForUser, IsWantedGraverForUser}
+use Rattle.system_shape.specs.Problem.{UserSystem, IsX0, SolvesUser, full_vector, IsUserSolution, IsMinimalOfKind, IsWantedForUser, IsWantedGraverForUser}
 use Rattle.system_shape.specs.Slacks.{linear_system}
 
 -- each row has as many coefficients as there are columns, and the signs and caps are as many
@@ -14,7 +14,7 @@ pub record IsWellFormed (U : UserSystem) : Type 0 where
   pub rows : AllByRecursion (λ r. length r.coefficients ≡ length U.signs) U.rows
 
 -- without x0 all solutions are asked for
-abbrev pub HasKind : Bool → Kind → Type 0
+abbrev pub HasKind : Bool → SolutionKind → Type 0
 HasKind true kind = ⊤
 HasKind false Homogeneous = ⊥
 HasKind false Inhomogeneous = ⊥
@@ -29,12 +29,12 @@ x0_in false v = pos 0
 pub record StandsFor (U : UserSystem) (c : ℤ) (x v : List ℤ) : Type 0 where
   pub solves : Solves (linear_system U) (length U.rows) v
   pub first : x ≡ take (length U.signs) v
-  pub x0 : c ≡ x0_in U.x0 v
+  pub x0 : c ≡ x0_in U.has_x0 v
 
 -- the full vector of a solution solves the linear system
 abbrev pub FullSolves : Type 0
 FullSolves =
-    (U : UserSystem) (c : ℤ) (x : List ℤ) → IsWellFormed U → IsX0 U.x0 c → SolvesUser U c x
+    (U : UserSystem) (c : ℤ) (x : List ℤ) → IsWellFormed U → IsX0 U.has_x0 c → SolvesUser U c x
     → Solves (linear_system U) (length U.rows) (full_vector U c x)
 
 -- a vector that solves the linear system is the full vector of a solution: x is its first entries, and c its entry in
@@ -42,8 +42,8 @@ FullSolves =
 abbrev pub SolutionsAreFull : Type 0
 SolutionsAreFull =
     (U : UserSystem) (v : List ℤ) → IsWellFormed U → Solves (linear_system U) (length U.rows) v
-    → IsX0 U.x0 (x0_in U.x0 v) × SolvesUser U (x0_in U.x0 v) (take (length U.signs) v)
-    × (v ≡ full_vector U (x0_in U.x0 v) (take (length U.signs) v))
+    → IsX0 U.has_x0 (x0_in U.has_x0 v) × SolvesUser U (x0_in U.has_x0 v) (take (length U.signs) v)
+    × (v ≡ full_vector U (x0_in U.has_x0 v) (take (length U.signs) v))
 
 -- and of no other
 abbrev pub OneSolution : Type 0
@@ -64,22 +64,24 @@ abbrev pub FirstEntriesDecide : Type 0
 FirstEntriesDecide =
     (U : UserSystem) (v w : List ℤ) → IsWellFormed U → Solves (linear_system U) (length U.rows) v
     → Solves (linear_system U) (length U.rows) w
-    → take (length U.signs) v ≡ take (length U.signs) w → x0_in U.x0 v ≡ x0_in U.x0 w → v ≡ w
+    → take (length U.signs) v ≡ take (length U.signs) w → x0_in U.has_x0 v ≡ x0_in U.has_x0 w
+        → v ≡ w
 
 -- what is written of the linear system is what the user's own system asks for
 abbrev pub WrittenForUser : Type 0
 WrittenForUser =
-    (U : UserSystem) (n : ℕ) (kind : Kind) (x : List ℤ) → IsWellFormed U → n ≡ length U.signs
-    → HasKind U.x0 kind → IsWrittenOf (linear_system U) n kind x ↔ IsWrittenForUser U kind x
+    (U : UserSystem) (n : ℕ) (kind : SolutionKind) (x : List ℤ)
+        → IsWellFormed U → n ≡ length U.signs
+    → HasKind U.has_x0 kind → IsWrittenOf (linear_system U) n kind x ↔ IsMinimalOfKind U kind x
 
 abbrev pub WantedForUser : Type 0
 WantedForUser =
-    (U : UserSystem) (n : ℕ) (kind : Kind) (rows : List (List ℤ)) → IsWellFormed U
-    → n ≡ length U.signs → HasKind U.x0 kind
+    (U : UserSystem) (n : ℕ) (kind : SolutionKind) (rows : List (List ℤ)) → IsWellFormed U
+    → n ≡ length U.signs → HasKind U.has_x0 kind
     → IsWanted (linear_system U) n kind rows ↔ IsWantedForUser U kind rows
 
 abbrev pub GraverForUser : Type 0
 GraverForUser =
     (U : UserSystem) (n : ℕ) (rows : List (List ℤ)) → IsWellFormed U → n ≡ length U.signs
-    → HasKind U.x0 Every
+    → HasKind U.has_x0 Every
     → IsWantedGraver (linear_system U) n rows ↔ IsWantedGraverForUser U rows

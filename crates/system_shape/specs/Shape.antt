@@ -67,7 +67,7 @@ user_system tool input = record {
       (cut_rows input.mat.rows input.mat.cols input.mat.cells)
       (given_relations input.mat.rows input.rel)
       (given_rights input.mat.rows input.rhs);
-  x0 = has_x0 tool;
+  has_x0 = has_x0 tool;
 }
 
 -- the linear system that stands for it

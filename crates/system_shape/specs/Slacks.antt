@@ -47,7 +47,7 @@ x0_caps false = []
 -- the linear system: the columns of x, the slacks, which are at least 0 and have no cap, and x0, which is 0 or 1
 abbrev pub linear_system : UserSystem → LinearSystem
 linear_system U = record {
-  signs = U.signs ++ (replicate (slack_count U.rows) (pos 1) ++ x0_signs U.x0);
-  caps = U.caps ++ (replicate (slack_count U.rows) None ++ x0_caps U.x0);
-  rows = rows_with_slacks U.x0 U.rows (slack_parts U.rows);
+  signs = U.signs ++ (replicate (slack_count U.rows) (pos 1) ++ x0_signs U.has_x0);
+  caps = U.caps ++ (replicate (slack_count U.rows) None ++ x0_caps U.has_x0);
+  rows = rows_with_slacks U.has_x0 U.rows (slack_parts U.rows);
 }

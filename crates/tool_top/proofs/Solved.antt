@@ -24,7 +24,7 @@ use Rattle.tool_top.specs.Plan.{Plan, plan_of, plan_for, user_of, system_of_plan
 use Rattle.tool_top.specs.Outputs.{OutputFile, file_of, AreOutputsOf, AreOutputs, written_all, to_write}
 use Rattle.tool_top.specs.Expected.{Starts, OnDone}
 use Rattle.tool_top.specs.Left.{HasWritten}
-use Rattle.tool_top.specs.Solved.{IsHeld, HoldsSolutions, IsSolved}
+use Rattle.tool_top.specs.Solved.{IsHeld, HoldsWantedLists, IsSolved}
 
 -- the two files of zsolve have names of their own
 names_differ : (project : List ℕ) → file_name project Zhom ≡ file_name project Zinhom → ⊥
@@ -60,12 +60,12 @@ starts_fresh S p start (Some k) resume none fresh starts = cc
 -- a plan's run from nothing
 plan_solved : (p : Plan) (before : Files) (after : Option Files) → p.job.tables ≡ None
     → p.job.resume ≡ false → HasWritten p before after
-    → IsSomeAnd after (HoldsSolutions p.tool (project_of p.job) p.input)
+    → IsSomeAnd after (HoldsWantedLists p.tool (project_of p.job) p.input)
 plan_solved p before after none fresh w =
     let is : w.finishes.start ≡ Fresh (system_of_plan p) = starts_fresh (system_of_plan p) p w.finishes.start p.job.tables p.job.resume none fresh w.finishes.starts in
     let wanted : AreOutputsOf p.tool (user_of p) p.input.mat.cols w.outputs = subst (λ s. AreOutputs p s w.outputs) is w.finishes.wanted in
     let whole : after ≡ Some (written_all (project_of p.job) w.outputs w.files) = subst (λ t. after ≡ Some (written_all (project_of p.job) (to_write t w.outputs) w.files)) none w.whole in
-    subst (λ o. IsSomeAnd o (HoldsSolutions p.tool (project_of p.job) p.input)) (sym whole) (record {
+    subst (λ o. IsSomeAnd o (HoldsWantedLists p.tool (project_of p.job) p.input)) (sym whole) (record {
       outputs = w.outputs;
       wanted = wanted;
       held = held_all p.tool (user_of p) p.input.mat.cols (project_of p.job) w.files w.outputs wanted;
@@ -80,7 +80,7 @@ planned_by tool job files input =
 read_solved : (tool : Tool) (job : Job) (before : Files) (after : Option Files) → job.tables ≡ None
     → job.resume ≡ false → (r : Result Input InputFault)
     → IsOkAnd (answered r >>= (λ input. Ok (planned_by tool job before input))) (λ p. HasWritten p before after)
-    → IsOkAnd r (λ input. IsSomeAnd after (HoldsSolutions tool (project_of job) input))
+    → IsOkAnd r (λ input. IsSomeAnd after (HoldsWantedLists tool (project_of job) input))
 read_solved tool job before after none fresh (Ok input) h =
     plan_solved (planned_by tool job before input) before after none fresh h
 read_solved tool job before after none fresh (Err fault) h = h

@@ -13,7 +13,7 @@ use Rattle.system_shape.specs.Laws.{IsWellFormed, HasKind}
 use Rattle.system_shape.specs.Shape.{user_system, tool_system}
 use Rattle.system_shape.specs.declared.files.Input.{Input}
 use Rattle.system_shape.specs.Slacks.{linear_system}
-use Rattle.system_shape.specs.Problem.{UserSystem, IsWrittenForUser, IsWantedForUser, IsWantedGraverForUser}
+use Rattle.system_shape.specs.Problem.{UserSystem, IsMinimalOfKind, IsWantedForUser, IsWantedGraverForUser}
 use Rattle.system_shape.proofs.Solutions.{written as written_for_user, same_list, same_pairs}
 use Rattle.solution_files.specs.Laws.{AreAllSolutions}
 use Rattle.solution_files.proofs.GridText.{text_of-rows}
@@ -116,7 +116,7 @@ files_wanted Zsolve S finished files is all h = (
     no_graver e = cc
 
 -- of any solutions
-taken_projected : (tool : Tool) (finished : List (List ℤ)) (n : ℕ) (kind : core.Kind) (x : List ℤ) →
+taken_projected : (tool : Tool) (finished : List (List ℤ)) (n : ℕ) (kind : core.SolutionKind) (x : List ℤ) →
     IsTaken tool finished n kind x → IsProjected finished n kind x
 taken_projected Graver finished n kind x h = h.0
 taken_projected Hilbert finished n kind x h = h
@@ -151,21 +151,21 @@ files_sound Zsolve S finished files sound h = (
 )
 
 -- ---- what is wanted of the linear system is what the user's own system asks for
-wanted_for_user : (U : UserSystem) (n : ℕ) (kind : core.Kind) (rows : List (List ℤ))
-    → IsWellFormed U → n ≡ length U.signs → HasKind U.x0 kind
+wanted_for_user : (U : UserSystem) (n : ℕ) (kind : core.SolutionKind) (rows : List (List ℤ))
+    → IsWellFormed U → n ≡ length U.signs → HasKind U.has_x0 kind
     → IsWanted (linear_system U) n kind rows → IsWantedForUser U kind rows
 wanted_for_user U n kind rows well e k h = (same_list (IsWrittenOf (linear_system U) n kind)
-    (IsWrittenForUser U kind) rows (λ x. written_for_user U well n kind x e k)).0 h
+    (IsMinimalOfKind U kind) rows (λ x. written_for_user U well n kind x e k)).0 h
 
 graver_for_user : (U : UserSystem) (n : ℕ) (rows : List (List ℤ)) → IsWellFormed U
-    → n ≡ length U.signs → HasKind U.x0 Every → IsWantedGraver (linear_system U) n rows
+    → n ≡ length U.signs → HasKind U.has_x0 Every → IsWantedGraver (linear_system U) n rows
     → IsWantedGraverForUser U rows
 graver_for_user U n rows well e k h =
     (same_list (λ x. IsWrittenOf (linear_system U) n Every x × (IsWrittenOf (linear_system U) n
     Every (negated x) → IsTrue (leads_negative x) → ⊥))
-    (λ x. IsWrittenForUser U Every x × (IsWrittenForUser U Every (negated x)
+    (λ x. IsMinimalOfKind U Every x × (IsMinimalOfKind U Every (negated x)
     → IsTrue (leads_negative x) → ⊥)) rows
-    (λ x. same_pairs (IsWrittenOf (linear_system U) n Every) (IsWrittenForUser U Every) x (negated
+    (λ x. same_pairs (IsWrittenOf (linear_system U) n Every) (IsMinimalOfKind U Every) x (negated
     x) (IsTrue (leads_negative x) → ⊥) (written_for_user U well n Every x e k) (written_for_user
     U well n Every (negated x) e k))).0
     h

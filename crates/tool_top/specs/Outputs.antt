@@ -3,7 +3,7 @@ use Rattle.std.specs.Prelude.{◌≡◌, ℕ, ℤ, List, ◌∷◌, [], length, 
 use Rattle.std.specs.List.{sum_by, AllByRecursion}
 use Rattle.outside.specs.Files.{Files}
 use Rattle.int_vector.specs.Vectors.{norm}
-use Rattle.lift_core.specs.Columns.{Kind, Every, Homogeneous, Inhomogeneous}
+use Rattle.lift_core.specs.Columns.{SolutionKind, Every, Homogeneous, Inhomogeneous}
 use Rattle.lift_core.specs.Systems.{LinearSystem, ToolSystem}
 use Rattle.lift_core.specs.Kinds.{HasX0}
 use Rattle.lift_core.specs.declared.Tool.{Tool}
@@ -31,8 +31,8 @@ abbrev pub file_of : Part → ℕ → List (List ℤ) → OutputFile
 file_of part n rows =
     record { part = part; text = text_of_rows n rows; rows = length rows; norms = sum_by norm rows }
 
--- the files of a command, each with exactly the wanted rows of the user's own system: the Graver
--- basis, the Hilbert basis, or the minimal homogeneous and then the minimal inhomogeneous solutions
+-- the files of a command, each with exactly one wanted list of the user's own system: that of
+-- `graver`; all minimal solutions; or the homogeneous and then the inhomogeneous ones
 abbrev pub AreOutputsOf : Tool → UserSystem → ℕ → List OutputFile → Type 0
 AreOutputsOf Graver U n files =
     (rows : List (List ℤ)) × IsWantedGraverForUser U rows × (files ≡ file_of Gra n rows ∷ [])
@@ -43,14 +43,34 @@ AreOutputsOf Zsolve U n files =
     × IsWantedForUser U Inhomogeneous inhom
     × (files ≡ file_of Zhom n hom ∷ file_of Zinhom n inhom ∷ [])
 
+-- the project's files after each of these was written anew, in order
+abbrev pub written_all : List ℕ → List OutputFile → Files → Files
+written_all project [] files = files
+written_all project (f ∷ fs) files =
+    written_all project fs (written (file_name project f.part) f.text files)
+
+-- the files that are written: none with tables, whose rows are only counted
+abbrev pub to_write : Option ℕ → List OutputFile → List OutputFile
+to_write None outputs = outputs
+to_write (Some k) outputs = []
+
+-- the numbers of the summary: all rows, and the sum of their norms
+abbrev pub total_rows : List OutputFile → ℕ
+total_rows files = sum_by (λ f. f.rows) files
+
+abbrev pub norms_in : List OutputFile → ℕ
+norms_in files = sum_by (λ f. f.norms) files
+
+-- ---- runs that go on from a restart file
 -- x is the first n entries of a nonzero solution of that kind
-pub record IsPartOfSolution (S : LinearSystem) (n : ℕ) (kind : Kind) (x : List ℤ) : Type 0 where
+pub record IsPartOfSolution (S : LinearSystem) (n : ℕ) (kind : SolutionKind) (x : List ℤ)
+    : Type 0 where
   pub solution : List ℤ
   pub solves : IsSolution S solution
   pub x0 : HasX0 kind solution
   pub is : x ≡ take n solution
 
-abbrev pub ArePartsOfSolutions : ToolSystem → Kind → List (List ℤ) → Type 0
+abbrev pub ArePartsOfSolutions : ToolSystem → SolutionKind → List (List ℤ) → Type 0
 ArePartsOfSolutions S kind rows = AllByRecursion (IsPartOfSolution S.equations S.n kind) rows
 
 -- the files of a command, each with solutions alone
@@ -72,21 +92,3 @@ AreOutputs p (Fresh S) files = AreOutputsOf p.tool (user_of p) p.input.mat.cols 
 AreOutputs p (Resumed s slot) files =
     (IsDefined s → AreOutputsOf p.tool (user_of p) p.input.mat.cols files)
     × AreSoundOf p.tool (system_of_plan p) files
-
--- the project's files after each of these was written anew, in order
-abbrev pub written_all : List ℕ → List OutputFile → Files → Files
-written_all project [] files = files
-written_all project (f ∷ fs) files =
-    written_all project fs (written (file_name project f.part) f.text files)
-
--- the files that are written: none with tables, whose rows are only counted
-abbrev pub to_write : Option ℕ → List OutputFile → List OutputFile
-to_write None outputs = outputs
-to_write (Some k) outputs = []
-
--- the numbers of the summary: all rows, and the sum of their norms
-abbrev pub total_rows : List OutputFile → ℕ
-total_rows files = sum_by (λ f. f.rows) files
-
-abbrev pub norms_in : List OutputFile → ℕ
-norms_in files = sum_by (λ f. f.norms) files

@@ -18,8 +18,8 @@ use Rattle.tool_top.specs.Outputs.{OutputFile, AreOutputsOf}
 abbrev pub IsHeld : List ℕ → Files → OutputFile → Type 0
 IsHeld project files f = get files (file_name project f.part) ≡ Some f.text
 
--- the project's output files hold exactly the wanted rows of the user's own system
-pub record HoldsSolutions (tool : Tool) (project : List ℕ) (input : Input) (files : Files)
+-- each output file of the command holds exactly one wanted list of the user's own system, and nothing else
+pub record HoldsWantedLists (tool : Tool) (project : List ℕ) (input : Input) (files : Files)
     : Type 0 where
   pub outputs : List OutputFile
   pub wanted : AreOutputsOf tool (user_system tool input) input.mat.cols outputs
@@ -31,4 +31,4 @@ abbrev pub IsSolved : Tool → Option Job → Files → Option Files → Type 0
 IsSolved tool None before after = ⊥
 IsSolved tool (Some job) before after = job.tables ≡ None → job.resume ≡ false
     → IsOkAnd (accepted_in tool (project_of job) before) (λ input.
-    IsSomeAnd after (HoldsSolutions tool (project_of job) input))
+    IsSomeAnd after (HoldsWantedLists tool (project_of job) input))

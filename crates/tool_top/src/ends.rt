@@ -40,9 +40,9 @@ pub enum Part {
     Ckp0,
     /// `.ckp1`, the second restart file.
     Ckp1,
-    /// `.gra`, the Graver basis that is written.
+    /// `.gra`, the minimal solutions that `graver` writes.
     Gra,
-    /// `.hil`, the Hilbert basis that is written.
+    /// `.hil`, the minimal solutions that `hilbert` writes.
     Hil,
     /// `.zhom`, the minimal homogeneous solutions that are written.
     Zhom,

@@ -367,19 +367,22 @@ fn finish<R: Threads + Sync, F: Folder, O: Sink, E: Sink, G: Gate + Sync>(
 /// At each end but Done its line is put on `err`, by [`put_message`]; a refusal there changes no status.
 ///
 /// With `--tables=K` (`graver` alone) the system is that of the tables with three rows and K columns whose sums are 0: no
-/// call of the folder is made, the rows of its Graver basis are counted, and `out` gains a second line with the sum of
-/// their norms.
+/// call of the folder is made, the rows that `graver` would write are counted, and `out` gains a second line with the
+/// sum of their norms.
 ///
 /// For a project P the files are those of the 4ti2 user manual: `P.mat`, and `P.sign`, `P.rel`, `P.rhs` where they are
-/// there; `P.cap` bounds the absolute values of the columns. `graver` writes the Graver basis (Graver 1975) to `P.gra`,
-/// of a vector and its negative the one whose first nonzero entry is positive; `hilbert` writes the Hilbert basis to
-/// `P.hil`; `zsolve` writes the minimal homogeneous solutions to `P.zhom` and the minimal inhomogeneous ones to
-/// `P.zinhom`. The rows are in lexicographic order.
+/// there; `P.cap` bounds the absolute values of the columns. `graver` writes the minimal solutions (Graver 1975) to
+/// `P.gra`, of a vector and its negative, where both are minimal, the one whose first nonzero entry is positive: where
+/// there are no sign, relation and cap files, that is the Graver basis of the matrix. `hilbert` writes the minimal
+/// solutions to `P.hil`: where all signs are 1 or -1 and there are no caps, the Hilbert basis of the cone. `zsolve`
+/// writes the minimal homogeneous solutions to `P.zhom` and the minimal inhomogeneous ones to `P.zinhom`. The rows are
+/// in lexicographic order.
 ///
 /// With `--backup=N` a restart file is written after every N norms that the run closes, to `P.ckp0` and `P.ckp1` in turn.
 /// With `--resume` the run goes on from the one of both that is accepted and has the later place, or from `P.ckp0` where
-/// both have the same, and its first backup goes to the other. A run that is resumed from a file of an earlier run of the
-/// system ends and writes as the run that never stopped; from any other accepted file it writes solutions alone.
+/// both have the same, and its first backup goes to the other. A run that is resumed from a file that goes back, through
+/// runs of the system, to one from nothing ends and writes as the run that never stopped; from any other accepted file it
+/// writes nothing but the user's columns of solutions.
 ///
 /// The end is the first that fits: [`End::Usage`] where the words are not of the form; for `.mat`, `.sign`, `.rel`, `.rhs`,
 /// `.cap` in turn [`End::Missing`] (`.mat` alone), [`End::TooLong`], [`End::Text`]; [`End::Refused`] where `.lat`, `.lb` or
@@ -401,9 +404,10 @@ pub fn run_tool<R: Threads + Sync, F: Folder, O: Sink, E: Sink, G: Gate + Sync>(
     ensures solved { IfSome (F.held folder.old) (λ files.
         OnDone result.end (IsSolved tool (job_of tool words.now) files (F.held folder.new))) }
 
-    // For every run, a resumed one too: at Done, the output files hold exactly the wanted rows of the user's own system,
-    // the restart files have their backups, and all other files are as before. (Where a run is resumed, `AreOutputs` says
-    // from which files: from each that an earlier run of the system has written.)
+    // For every run, a resumed one and one with tables too: at Done, each output file holds what `AreOutputs` says (from
+    // nothing, the wanted list; from a restart file whose lists are the defined ones, the same; from any other that is
+    // accepted, parts of solutions; with tables none is written), the restart files have their backups, and all other
+    // files are as before.
     ensures written { IfSome (F.held folder.old) (λ files.
         OnDone result.end
         (IsOkAnd (planned tool words.now files)
@@ -429,7 +433,7 @@ pub fn run_tool<R: Threads + Sync, F: Folder, O: Sink, E: Sink, G: Gate + Sync>(
         })
         result.end) }
 
-    // With tables, no call of the folder is made.
+    // With tables, the folder is as it was, also where it tells no files.
     ensures apart { HasTables (job_of tool words.now) → folder.new ≡ folder.old }
 
     // What standard output has gained, whether or not the folder tells its files.

@@ -8,8 +8,8 @@ use Rattle.lift_core.specs.Ends.{Limits as Bounds}
 use Rattle.stage_store.specs.Stage.{StageValue, IsDefined}
 use Rattle.stage_store.specs.declared.stage.Finish.{Finish}
 use Rattle.lift_run.specs.declared.ends.RunEnd.{RunEnd}
-use Rattle.lift_run.specs.Runs.{end_of_error, StageWalks, IsOfSystem, HasAllSolutions}
-use Rattle.lift_run.specs.Keeps.{IsAllowed, IsClosing, Leads, EndsHere, ComesTo, BreaksOff, TellsTo}
+use Rattle.lift_run.specs.Runs.{end_of_error, IsOfSystem, HasAllSolutions}
+use Rattle.lift_run.specs.Keeps.{IsAllowed, IsClosing, Leads, EndsHere, ComesTo, TellsTo}
 
 -- the next norm, none, or an end that is met at this stage
 abbrev pub AllowsNext : Bounds → StageValue → Result (Option ℕ) RunEnd → Type 0
@@ -24,7 +24,9 @@ ListsNorm limits e old new (Ok u) =
 ListsNorm limits e old new (Err end) = IfSome (end_of_error end) (EndsHere limits old)
 
 -- the run goes on from the new stage, and the Keep was told of each norm that was closed on the way
-pub record GoesOn {X : Type 0} (after : X → StageValue → X) (limits : Bounds) (old new : StageValue) (before now : Option X) : Type 0 where
+pub record GoesOn {X : Type 0} (after : X → StageValue → X) (limits : Bounds)
+    (old new : StageValue) (before now : Option X)
+    : Type 0 where
   pub closed : List StageValue
   pub leads : Leads limits old closed new
   pub told : now ≡ option_map (λ x. fold after x closed) before
@@ -51,7 +53,9 @@ ClosesAll after torn limits old new before now (Err end) =
     TellsTo after torn limits old (end_of_error end) before now
 
 -- the run over the stages from the first on is finished
-pub record IsFinished {X : Type 0} (after : X → StageValue → X) (limits : Bounds) (first : StageValue) (f : Finish) (before now : Option X) : Type 0 where
+pub record IsFinished {X : Type 0} (after : X → StageValue → X) (limits : Bounds)
+    (first : StageValue) (f : Finish) (before now : Option X)
+    : Type 0 where
   pub comes : ComesTo after limits first (finished f.rows.rows f.pairs) before now
   pub system : IsOfSystem first.system f
   pub solutions : IsDefined first → HasAllSolutions f

@@ -7,7 +7,7 @@ use Rattle.mat_files.specs.Printed.{text_of}
 use Rattle.lift_core.specs.Systems.{ToolSystem}
 use Rattle.lift_core.specs.declared.Tool.{Tool}
 use Rattle.lift_core.specs.declared.Tool.TheVariants.{Graver, Hilbert, Zsolve}
-use Rattle.lift_core.specs.Columns.{Kind, Every, Homogeneous, Inhomogeneous}
+use Rattle.lift_core.specs.Columns.{SolutionKind, Every, Homogeneous, Inhomogeneous}
 use Rattle.lift_core.specs.Inside.Written.{IsWanted, IsWantedGraver}
 use Rattle.solution_files.specs.declared.selection.Kind.TheVariants.{All, Hom, Inhom}
 use Rattle.solution_files.specs.Outputs.{IsSelected}
@@ -25,7 +25,7 @@ use Rattle.tool_top.specs.Summary.{summary_of}
 use Rattle.tool_top.specs.Left.{IsCutAt}
 
 -- the rows that a tool selects from the minimal solutions of the linear system
-abbrev pub IsWantedBy : Tool → ToolSystem → Kind → List (List ℤ) → Type 0
+abbrev pub IsWantedBy : Tool → ToolSystem → SolutionKind → List (List ℤ) → Type 0
 IsWantedBy Graver S kind rows = IsWantedGraver S.equations S.n rows
 IsWantedBy Hilbert S kind rows = IsWanted S.equations S.n kind rows
 IsWantedBy Zsolve S kind rows = IsWanted S.equations S.n kind rows

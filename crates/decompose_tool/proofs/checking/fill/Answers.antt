@@ -16,4 +16,4 @@ returns-then-not-branch c =
     let d = differences U.rows c.args.times x in
     let front : c.extend_from_slice.new.self.items ≡ x = c.in_ok-extend_from_slice.ensures.items ∙ ap (λ v. v ++ x) c.clear.ensures.items in
     let wide : largest < norm (c.extend_from_slice.new.self.items ++ d) = too_long c.extend_from_slice.new.self.items d c.push_differences.new.full.items c.in_ok-push_differences.field-0 c.if-not-branch.true (simp to_z-of_z at c.in_ok-push_differences.ensures) in
-    wide_before x d (x0_entry U.x0 c.args.times) (subst (λ (v : List ℤ). largest < norm (v ++ d)) front wide)
+    wide_before x d (x0_entry U.has_x0 c.args.times) (subst (λ (v : List ℤ). largest < norm (v ++ d)) front wide)

@@ -1,5 +1,4 @@
 -- The norm is closed and the Keep told, or the run ends at it.
-use Rattle.std.proofs.Common.{◌∙◌}
 use Rattle.lift_run.specs.Runs.{bounds}
 use Rattle.lift_run.proofs.Walking.{goes_closed, norm_stop, norm_torn}
 use Rattle.lift_run.proofs.stages.close_norm.Goals as goal

@@ -1,5 +1,5 @@
 -- One stage more is done, or the run ends.
-use Rattle.std.proofs.Common.{rules, arith, refl, ◌∙◌}
+use Rattle.std.proofs.Common.{arith, refl, ◌∙◌}
 use Rattle.lift_run.specs.Runs.{bounds}
 use Rattle.lift_run.proofs.Walking.{stays, goes_next, goes_last, goes_nowhere, runs_stop, fewer_left, leads_system}
 use Rattle.lift_run.proofs.stages.run_stages.Goals as goal
@@ -34,3 +34,6 @@ pub returns-in-Last-clause-runs : goal.returns-in-Last-clause-runs
 returns-in-Last-clause-runs g c =
     goes_last g.K.Keep.after (bounds c.args.limits) c.args.first c.loop-stage.stage c.run_stage.new.stage c.in-Last.finish (g.K.Keep.state c.args.keep.now) (g.K.Keep.state c.loop-stage.keep) (g.K.Keep.state c.run_stage.new.keep) c.in_ok-next.field-0
     c.in-Last.is c.loop-stage.invariant.goes c.in_ok-run_stage.ensures.closes.0 c.in_ok-run_stage.ensures.closes.1 c.in_ok-next.ensures.lifted c.in_ok-next.ensures.defined
+
+pub run_stage-requires-clause-asks : goal.run_stage-requires-clause-asks
+run_stage-requires-clause-asks g c κs within = λ s d. c.requires.asks s (λ f. d (c.loop-stage.invariant.goes.defined f))

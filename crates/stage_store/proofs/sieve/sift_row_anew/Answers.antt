@@ -1,14 +1,14 @@
 -- The lines in which the row is marked tell what it bars and reaches, so they are read against the other table as for a
 -- new row.
-use Rattle.std.proofs.Common.{◌≡◌, ◌∙◌, ◌*◌, ◌/◌, ◌<◌, ℕ, List, length, get_or, sym, subst, subst₂, arith, true}
+use Rattle.std.proofs.Common.{◌≡◌, ◌∙◌, ◌*◌, ◌/◌, ◌<◌, ℕ, List, [], length, get_or, sym, subst, subst₂, arith, true}
 use Rattle.std.specs.Prelude.{OnOk}
 use Rattle.std.proofs.lemmas.List.{get_or_default}
 use Rattle.lift_core.specs.ToolSystems.{width}
 use Rattle.lift_core.specs.Stages.{has_positive_last, has_negative_last}
 use Rattle.stage_store.specs.Classes.{row_at}
 use Rattle.stage_store.specs.Levels.{BarsLine, ReachesLine}
-use Rattle.stage_store.specs.Sieve.{AreReads, AreSiftedBy}
-use Rattle.stage_store.proofs.Tables.{group_at, sized_at, inside_table, few_table}
+use Rattle.stage_store.specs.Sieve.{AreReads, AreSiftedBy, IsBefore}
+use Rattle.stage_store.proofs.Tables.{group_at, sized_at, inside_table}
 use Rattle.stage_store.proofs.Classes.{each_at}
 use Rattle.stage_store.proofs.Sifting.{marked_reads}
 use Rattle.stage_store.proofs.sieve.sift_row_anew.Goals as goal
@@ -20,14 +20,14 @@ sift_row-requires-clause-row c =
       arith,
       e,
       each_at (λ j. j < length c.args.reaches.now) c.args.plus.now.ids.items c.args.k 0
-          (inside_table c.args.system.now.equations c.args.listed.now.rows has_positive_last (length c.args.reaches.now) c.args.plus.now c.requires.reach_count c.requires.plus) c.requires.place,
+          (inside_table c.args.system.now.equations c.args.listed.now.rows (IsBefore c.args.listed.now.rows has_positive_last (length c.args.reaches.now)) (length c.args.reaches.now) (length c.args.reaches.now) c.args.plus.now (λ x xl p. p.0) c.requires.plus) c.requires.place,
     )
 
 pub sift_row-requires-clause-places : goal.sift_row-requires-clause-places
-sift_row-requires-clause-places c = inside_table c.args.system.now.equations c.args.listed.now.rows has_negative_last (length c.args.reaches.now) c.args.minus.now c.requires.reach_count c.requires.minus
+sift_row-requires-clause-places c = inside_table c.args.system.now.equations c.args.listed.now.rows (IsBefore c.args.listed.now.rows has_negative_last (length c.args.reaches.now)) (length c.args.reaches.now) (length c.args.reaches.now) c.args.minus.now (λ x xl p. p.0) c.requires.minus
 
 pub sift_row-requires-clause-few : goal.sift_row-requires-clause-few
-sift_row-requires-clause-few c = few_table c.args.system.now.equations c.args.listed.now.rows has_negative_last (length c.args.reaches.now) c.args.minus.now c.requires.reach_count c.requires.few c.requires.minus
+sift_row-requires-clause-few c = omega (arith, c.requires.minus.few, c.requires.reach_count, c.requires.few)
 
 pub sift_row-requires-clause-groups : goal.sift_row-requires-clause-groups
 sift_row-requires-clause-groups c = c.requires.minus.count
@@ -58,4 +58,4 @@ sift_row-requires-clause-reach_reads c =
 
 pub returns-clause-sifted : goal.returns-clause-sifted
 returns-clause-sifted c =
-    subst (λ (i : ℕ). OnOk c.sift_row.result (AreSiftedBy true c.args.system.now.equations c.args.listed.now.rows c.sift_row.new.shelves i c.args.minus.now.ids.items)) (c.index.ensures ∙ get_or_default c.args.plus.now.ids.items c.args.k c.index.result.now 0 c.requires.place) c.sift_row.ensures.sifted
+    subst (λ (i : ℕ). OnOk c.sift_row.result (AreSiftedBy true c.args.system.now.equations c.args.listed.now.rows c.sift_row.new.shelves [] i c.args.minus.now.ids.items)) (c.index.ensures ∙ get_or_default c.args.plus.now.ids.items c.args.k c.index.result.now 0 c.requires.place) c.sift_row.ensures.sifted

@@ -7,7 +7,7 @@ pub returns-clause-full : goal.returns-clause-full
 returns-clause-full c = λ U c x well x0 h. full_solves U well c x x0 h
 
 pub returns-clause-is : goal.returns-clause-is
-returns-clause-is c = λ U v well h. let f = solution_of U well v h in (f.0.x0, f.0.solves, f.1)
+returns-clause-is c = λ U v well h. let f = solution_of U well v h in (f.0.factor, f.0.solves, f.1)
 
 pub returns-clause-one_solution : goal.returns-clause-one_solution
 returns-clause-one_solution c = one_solution

@@ -12,13 +12,14 @@ returns-in-Ok c =
     record {
       held = record {
         within = omega (arith, c.len-self.ensures);
+        reach_count = omega (arith, c.in-Ok.ensures.reach_count, c.len-self.ensures);
         upto = record {
           plus_table = u.plus_table;
           minus_table = u.minus_table;
           shelves_are = u.shelves_are;
           closed = u.closed;
-          reach_count = u.reach_count;
           reaches_are = u.reaches_are;
+          mirror_is = u.mirror_is;
           sifted = u.sifted;
         };
       };

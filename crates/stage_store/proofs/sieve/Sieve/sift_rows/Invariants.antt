@@ -1,8 +1,0 @@
-use Rattle.stage_store.specs.Sieve.{IsSieveTo, IsRoom}
-use Rattle.stage_store.proofs.sieve.Sieve.sift_rows.Given as goal
-
-abbrev pub invariant-loop-i : goal.invariant-loop-i
-invariant-loop-i l = record {
-  upto : IsSieveTo l.system.equations l.listed.rows l.norm l.i l.self;
-  room : IsRoom l.system.equations l.room;
-}
