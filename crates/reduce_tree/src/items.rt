@@ -1,13 +1,14 @@
-//! Where a row is filed: in a part by the sign of its last entry, and there by the classes of its first items.
+//! Where a row is filed: in a part by the sign of its last entry, and there by the classes of its last items before that.
 //!
 //! An item is a column with a sign: number 2 c for entries of column c that are not below 0, and 2 c + 1 for those below.
 //! The class of an item is the number of its first mark in a signature. In rows of more than 64 entries some items share
-//! one, and a search looks at more rows than it need.
+//! one, and a search looks at more rows than it need. The last columns are those of slacks and of x0, in which few rows
+//! agree.
 
-ghost use Rattle.std.specs.Prelude.{◌≡◌, ◌≢◌, ◌+◌, ◌*◌, ◌<◌, ◌≤◌, ℕ, pos, length, slice_index_or};
+ghost use Rattle.std.specs.Prelude.{◌≡◌, ◌≢◌, ◌+◌, ◌*◌, ◌<◌, ◌≤◌, ℕ, pos, length, slice_index_or, IfSome};
 ghost use Rattle.reduce_tree.specs.Items.{item_at, part_at, part_of, size_of, IsRowClass, IsKeyOf};
 
-/// A row's part, and the classes of its first three items: 127 for each that it does not have.
+/// A row's part, and the classes of its last three items before the last entry: 127 for each that it does not have.
 #[derive(Clone, Copy)]
 pub struct Key {
     pub part: u8,
@@ -34,9 +35,9 @@ pub fn key_of(row: &[i64], levels: usize, bits: u128) -> Key
     ensures second { result.second < 128 }
     ensures third { result.third < 128 }
 {
-    let first = first_from(row, 0);
-    let second = first_from(row, first + 1);
-    let third = first_from(row, second + 1);
+    let first = column_before(row, row.len().checked_sub(1));
+    let second = column_before(row, first);
+    let third = column_before(row, second);
     Key {
         part: part_of(row),
         first: class_in(row, first, levels, bits),
@@ -45,29 +46,28 @@ pub fn key_of(row: &[i64], levels: usize, bits: u128) -> Key
     }
 }
 
-/// The column of the first entry that is not 0 from a column on, or the number of columns where there is none.
-fn first_from(row: &[i64], from: usize) -> usize
-    requires { length row.now ≤ 130 }
-    ensures most { result ≤ length row.now }
-    ensures nonzero { result < length row.now → slice_index_or row.now result (pos 0) ≢ pos 0 }
-    ensures before { (j : ℕ) → from ≤ j → j < result → slice_index_or row.now j (pos 0) ≡ pos 0 }
+/// The last column before another with an entry that is not 0.
+fn column_before(row: &[i64], end: Option<usize>) -> Option<usize>
+    ensures { IfSome result (λ c. (c < length row.now)
+        × (slice_index_or row.now c (pos 0) ≢ pos 0)) }
 {
-    for column in from..row.len() {
+    for column in (0..row.len().min(end?)).rev() {
         if row[column] != 0 {
-            return column;
+            return Some(column);
         }
     }
-    row.len()
+    None
 }
 
-/// The class of the item of a row's entry in a column, and 127 where there is no such entry.
-fn class_in(row: &[i64], column: usize, levels: usize, bits: u128) -> u8
+/// The class of the item of a row's entry in a column, and 127 where there is none.
+fn class_in(row: &[i64], column: Option<usize>, levels: usize, bits: u128) -> u8
     requires narrow { length row.now ≤ 130 }
+    requires column { IfSome column (λ c. c < length row.now) }
     requires levels { levels ≤ 16 }
     ensures class { IsRowClass bits result }
     ensures most { result < 128 }
 {
-    if column < row.len() {
+    if let Some(column) = column {
         let class = item_at(column, row[column]) * levels % 128;
         if (bits >> class) & 1 == 1 {
             return class as u8;
