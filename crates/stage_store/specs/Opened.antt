@@ -1,17 +1,17 @@
 -- The pairs of a norm that may have an irreducible sum, by their numbers.
-use Rattle.std.specs.Prelude.{◌≡◌, ℕ, ◌+◌, ◌-◌, ◌*◌, ◌<◌, ◌≤◌, List, [], ℤ, IsTrue, length, take, slice_index_or}
+use Rattle.std.specs.Prelude.{◌≡◌, ◌⊎◌, ℕ, ◌+◌, ◌-◌, ◌*◌, ◌<◌, ◌≤◌, List, [], ℤ, pos, IsTrue, length, take, set, slice_index_or}
 use Rattle.std.specs.List.{AllByRecursion, Contains, sum_by}
 use Rattle.std.specs.List.Sorted.{IsNonDecreasingBy}
 use Rattle.int_vector.specs.Operations.{add}
 use Rattle.lift_core.specs.Stages.{stage_norm, IsPair}
-use Rattle.lift_core.specs.PairSums.{HasSum}
+use Rattle.lift_core.specs.PairSums.{HasSum, IsIrreducible}
 use Rattle.stage_store.specs.Stage.{StageValue, IsDefined}
 use Rattle.stage_store.specs.Classes.{ClassValue, IsPairAt, pairs_of, part_size, ids_of, ids_at, norm_at}
-use Rattle.lift_core.specs.Halves.{IsReducible}
 use Rattle.stage_store.specs.Found.{IsSumOf}
 use Rattle.stage_store.specs.Numbered.{pair_at}
 use Rattle.stage_store.specs.declared.sieve.KeptPair.{KeptPair}
 use Rattle.stage_store.specs.declared.opened.OpenPair.{OpenPair}
+use Rattle.stage_store.specs.declared.opened.Halves.{Halves}
 use Rattle.stage_store.specs.declared.opened.Opened.{Opened}
 
 -- ascending, where none is there twice
@@ -94,15 +94,30 @@ pub record IsOpen (s : StageValue) (e : ℕ) (opens : List OpenPair) : Type 0 wh
       → IsSumOf s.system.equations s.listed (pair_at s e p).0 (pair_at s e p).1 z
       → (x : OpenPair) × Contains opens x × (x.number ≡ p)
 
--- where a listed row is below the sum of a pair of norm e, one of the first rows is, so many of them
-abbrev pub AreEnough : StageValue → ℕ → ℕ → Type 0
-AreEnough s e count =
+-- z has 1 in place j, and with 0 there instead no listed row is below it
+abbrev pub IsFreeAtZero : List (List ℤ) → ℕ → List ℤ → Type 0
+IsFreeAtZero listed j z =
+    (slice_index_or z j (pos 0) ≡ pos 1) × IsIrreducible listed (set z j (pos 0))
+
+-- no listed row is below z among the first ones, so many of them
+abbrev pub IsFreeBefore : List (List ℤ) → ℕ → List ℤ → Type 0
+IsFreeBefore listed count z = IsIrreducible (take count listed) z
+
+-- among the rows that are enough none is below z: those of half of the norm, or those with x0 = 0
+abbrev pub IsFreeByHalf : List (List ℤ) → Halves → List ℤ → Type 0
+IsFreeByHalf listed halves z =
+    IsFreeBefore listed halves.rows z
+    ⊎ (IsTrue halves.by_x0 × IsFreeAtZero listed (length z - 2) z)
+
+-- a search among them is enough for the sum of a pair of norm e
+abbrev pub AreEnough : StageValue → ℕ → Halves → Type 0
+AreEnough s e halves =
     (f g : List ℤ) → IsPair s.listed f g → stage_norm f + stage_norm g ≡ e
     → HasSum s.system.equations f g
-    → IsReducible s.listed (add f g) → IsReducible (take count s.listed) (add f g)
+    → IsFreeByHalf s.listed halves (add f g) → IsIrreducible s.listed (add f g)
 
 -- what is said of the lists holds, and what is said of a norm's open pairs, once they are known
 pub record IsAhead (s : StageValue) (o : Opened) : Type 0 where
   pub defined : IsTrue o.defined → IsDefined s
   pub opens : IsTrue o.known → IsOpen s o.norm o.pairs.items
-  pub enough : IsTrue o.known → AreEnough s o.norm o.half
+  pub enough : IsTrue o.known → AreEnough s o.norm o.halves

@@ -1,15 +1,16 @@
 //! The irreducible sums of numbered pairs, and what a worker remembers on the way.
 
-ghost use Rattle.std.specs.Prelude.{◌≡◌, ◌⊎◌, ◌≤◌, ◌<◌, ◌+◌, ◌^◌, ℕ, [], length, slice_index_or, IfSome, IfOk, OnOk, IsTrue};
+ghost use Rattle.std.specs.Prelude.{◌≡◌, ◌⊎◌, ◌≤◌, ◌<◌, ◌+◌, ◌^◌, ℕ, [], length, slice_index_or, MatchOption, IfSome, IfOk, OnOk, IsTrue};
+ghost use Rattle.int_vector.specs.Vectors.{◌⊑◌};
 ghost use Rattle.std.specs.List.{Contains};
 ghost use Rattle.std.specs.List.Sorted.{IsNonDecreasingBy};
 ghost use Rattle.lift_core.specs.ToolSystems.{width};
 ghost use Rattle.stage_store.specs.Classes.{pairs_of, IsPairAt};
 ghost use Rattle.lift_core.specs.Halves.{IsReducible};
 ghost use Rattle.stage_store.specs.Numbered.{GainsNumbered, HasNoneBetween};
-ghost use Rattle.stage_store.specs.Opened.{AreEnough, IsOpen, open_number};
+ghost use Rattle.stage_store.specs.Opened.{AreEnough, IsFreeByHalf, IsOpen, open_number};
 
-use crate::opened::{OpenPair, Opened};
+use crate::opened::{Halves, OpenPair, Opened};
 use crate::stage::Stage;
 use int_vector::{below, same};
 use row_pool::{Pool, RowId};
@@ -119,15 +120,31 @@ fn reducer_below(places: &[u32], stage: &Stage, sum: &[i64]) -> Option<usize>
     None
 }
 
-/// Takes in the sum of the pair with a number, where it has one that is irreducible. The pair is that of two places, and the
-/// first `half` listed rows are enough to look for one below the sum.
+/// A listed row that is below a sum, found among those that are enough, by one measure for each sum: by x0 where that is
+/// 1 in it, else by the norm. Two measures at once would leave out too many rows.
+fn find_reducer(stage: &Stage, halves: Halves, sum: &mut [i64]) -> Option<RowId>
+    requires { length sum.old ≡ width stage.now.system.equations + 1 }
+    ensures same { sum.new ≡ sum.old }
+    ensures found { MatchOption result (IsFreeByHalf stage.now.listed halves sum.old)
+        (λ i. (i.0 < length stage.now.listed)
+        × (slice_index_or stage.now.listed i.0 [] ⊑ sum.old)) }
+{
+    let x0 = sum.len().saturating_sub(2);
+    if halves.by_x0 && sum[x0] == 1 {
+        stage.find_at_zero(sum, x0)
+    } else {
+        stage.find_before(sum, halves.rows)
+    }
+}
+
+/// Takes in the sum of the pair with a number, where it has one that is irreducible. The pair is that of two places.
 fn take_places(
     stage: &Stage,
     norm: u64,
     p: u64,
     f: RowId,
     g: RowId,
-    half: u32,
+    halves: Halves,
     hints: &mut Hints,
     sum: &mut [i64],
     rows: &mut Pool,
@@ -135,7 +152,7 @@ fn take_places(
     requires small { norm ≤ 9223372036854775807 }
     requires inside { p < length (pairs_of stage.now.listed norm) }
     requires at { IsPairAt stage.now.listed norm p f.0 g.0 }
-    requires enough { AreEnough stage.now norm half }
+    requires enough { AreEnough stage.now norm halves }
     requires sum { length sum.old ≡ width stage.now.system.equations + 1 }
     requires width { rows.old.width ≡ width stage.now.system.equations + 1 }
     requires room { 1 ≤ rows.old.spare }
@@ -155,7 +172,7 @@ fn take_places(
     if hints.is_reduced(stage, sum) {
         return;
     }
-    if let Some(id) = stage.find_before(sum, half) {
+    if let Some(id) = find_reducer(stage, halves, sum) {
         hints.remember(id);
         return;
     }
@@ -177,7 +194,11 @@ fn take_pair(stage: &Stage, norm: u64, p: u64, hints: &mut Hints, sum: &mut [i64
     ensures gains { GainsNumbered stage.now norm p (p + 1) rows.old.rows rows.new.rows }
 {
     let (f, g) = stage.pair(norm, p);
-    take_places(stage, norm, p, f, g, stage.len(), hints, sum, rows);
+    let all = Halves {
+        rows: stage.len(),
+        by_x0: false,
+    };
+    take_places(stage, norm, p, f, g, all, hints, sum, rows);
 }
 
 /// Takes in the sum of an open pair, unless that of its number was taken in. Answers the number up to which all are.
@@ -185,7 +206,7 @@ fn take_open(
     stage: &Stage,
     norm: u64,
     pair: OpenPair,
-    half: u32,
+    halves: Halves,
     done: u64,
     hints: &mut Hints,
     sum: &mut [i64],
@@ -195,7 +216,7 @@ fn take_open(
     requires inside { pair.number < length (pairs_of stage.now.listed norm) }
     requires few { length (pairs_of stage.now.listed norm) ≤ 2 ^ 42 }
     requires at { IsPairAt stage.now.listed norm pair.number pair.first pair.second }
-    requires enough { AreEnough stage.now norm half }
+    requires enough { AreEnough stage.now norm halves }
     requires none { HasNoneBetween stage.now norm done pair.number }
     requires sum { length sum.old ≡ width stage.now.system.equations + 1 }
     requires width { rows.old.width ≡ width stage.now.system.equations + 1 }
@@ -218,7 +239,7 @@ fn take_open(
         pair.number,
         RowId(pair.first),
         RowId(pair.second),
-        half,
+        halves,
         hints,
         sum,
         rows,
@@ -258,7 +279,7 @@ pub fn take_opened(
 )
     requires small { opened.now.norm ≤ 9223372036854775807 }
     requires opens { IsOpen stage.now opened.now.norm opened.now.pairs.items }
-    requires enough { AreEnough stage.now opened.now.norm opened.now.half }
+    requires enough { AreEnough stage.now opened.now.norm opened.now.halves }
     requires inside { first + count ≤ length (pairs_of stage.now.listed opened.now.norm) }
     requires few { length (pairs_of stage.now.listed opened.now.norm) ≤ 2 ^ 42 }
     requires sum { length sum.old ≡ width stage.now.system.equations + 1 }
@@ -279,7 +300,7 @@ pub fn take_opened(
             stage,
             opened.norm,
             pairs[k],
-            opened.half,
+            opened.halves,
             done,
             hints,
             sum,

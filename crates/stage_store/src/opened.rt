@@ -23,14 +23,23 @@ pub struct OpenPair {
     pub second: u32,
 }
 
-/// The open pairs of a norm, in order of their numbers, once they are known, and how many of the listed rows are enough to
-/// look for one below a sum of theirs: half of the norm is enough where the lists are known to be the defined ones.
+/// Which of the listed rows are enough to look for one below a sum of a norm.
+#[derive(Clone, Copy, Drop)]
+pub struct Halves {
+    /// The first rows, so many of them: those of at most half of the norm, where the lists are known to be the defined ones.
+    pub rows: u32,
+    /// Whether those with x0 = 0 are enough for a sum with x0 = 1.
+    pub by_x0: bool,
+}
+
+/// The open pairs of a norm, in order of their numbers, once they are known, and which of the listed rows are enough to
+/// look for one below a sum of theirs.
 #[derive(Drop)]
 pub struct Opened {
     pub known: bool,
     pub norm: u64,
     pub pairs: Vec<OpenPair>,
-    pub half: u32,
+    pub halves: Halves,
     /// Whether the lists are known to be the defined ones.
     pub defined: bool,
 }
@@ -44,7 +53,10 @@ impl Opened {
             known: false,
             norm: 0,
             pairs: Vec::new(alloc),
-            half: 0,
+            halves: Halves {
+                rows: 0,
+                by_x0: false,
+            },
             defined: false,
         }
     }
@@ -246,7 +258,10 @@ pub fn open_norm(
         known: true,
         norm: e,
         pairs,
-        half: listed.len(),
+        halves: Halves {
+            rows: listed.len(),
+            by_x0: false,
+        },
         defined: false,
     })
 }

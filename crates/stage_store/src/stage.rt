@@ -1,6 +1,6 @@
 //! The stage, what it is seen as, and the calls that take it from norm to norm and to the next stage.
 
-ghost use Rattle.std.specs.Prelude.{◌≡◌, ◌↔◌, ◌+◌, ◌-◌, ◌*◌, ◌<◌, ◌≤◌, ◌^◌, ℕ, ℤ, List, [], length, take, slice_index_or, All, MatchOption, IsTrue, IsFalse, false, ◌+ℤ◌, nat_abs, IfOk, OnOk};
+ghost use Rattle.std.specs.Prelude.{◌≡◌, ◌↔◌, ◌+◌, ◌-◌, ◌*◌, ◌<◌, ◌≤◌, ◌^◌, ℕ, ℤ, pos, List, [], length, take, slice_index_or, All, MatchOption, IsTrue, IsFalse, false, ◌+ℤ◌, nat_abs, IfOk, OnOk};
 ghost use Rattle.std.specs.List.{AllZip, AllByRecursion};
 ghost use Rattle.std.specs.List.Sorted.{IsStrictlySortedBy};
 ghost use Rattle.int_vector.specs.Vectors.{◌⊑◌, norm};
@@ -16,7 +16,7 @@ ghost use Rattle.int_vector.specs.Range.{InRange};
 ghost use Rattle.stage_store.specs.Stage.{StageValue, IsStage, IsDefined, used_of};
 ghost use Rattle.stage_store.specs.Classes.{pairs_of, IsPairAt};
 ghost use Rattle.stage_store.specs.Numbered.{GainsNumbered};
-ghost use Rattle.stage_store.specs.Opened.{AreEnough};
+ghost use Rattle.stage_store.specs.Opened.{AreEnough, IsFreeAtZero};
 ghost use Rattle.stage_store.specs.Least.{IsLeastAbove};
 ghost use Rattle.stage_store.specs.Answers.{IsNext, HasWaitingNorm, HasStagePair};
 ghost use Rattle.stage_store.specs.Lifted.{StartsOr, IsFirst, IsLift, IsLiftedDefined};
@@ -29,13 +29,13 @@ use crate::counting::{pairs_within, rows_within};
 use crate::growing::{add_class, class_of, list_rows, make_room, merged_rows, waits_up_to};
 use crate::lifting::{extended, kept_solutions, units};
 use crate::numbered::{Hints, gather_all, take_opened, take_range};
-use crate::opened::{Opened, open_norm};
+use crate::opened::{Halves, Opened, open_norm};
 use crate::order::in_order;
 use crate::rebuilding::{classes_of, tree_of};
 use crate::sieve::Sieve;
 use crate::tally::Tally;
 use int_vector::{Visits, add_into, conformal, norm};
-use lift_core::{IntRow, System};
+use lift_core::{IntRow, System, Tool};
 use reduce_tree::Tree;
 use row_pool::{Pool, RowId};
 use std::alloc::{AllocError, Global};
@@ -501,16 +501,38 @@ impl Stage {
             .find_below_before(&self.listed, z, end, &mut Visits { count: 0 })
     }
 
-    /// How many of the listed rows, the first ones, are enough to look for one below a sum of norm e: those of at most half
-    /// of it, where the lists are known to be the defined ones.
-    fn enough_for(&self, e: u64) -> u32
+    /// A listed row that is below z and has 0 in a column where z has 1.
+    pub(crate) fn find_at_zero(&self, z: &mut [i64], column: usize) -> Option<RowId>
+        requires length { length z.old ≡ width self.now.system.equations + 1 }
+        requires column { column < length z.old }
+        requires one { slice_index_or z.old column (pos 0) ≡ pos 1 }
+        ensures same { z.new ≡ z.old }
+        ensures found { MatchOption result (IsFreeAtZero self.now.listed column z.old)
+            (λ i. (i.0 < length self.now.listed)
+            × (slice_index_or self.now.listed i.0 [] ⊑ z.old)) }
+    {
+        z[column] = 0;
+        let found = self.find_below(z, &mut Visits { count: 0 });
+        z[column] = 1;
+        found
+    }
+
+    /// Which of the listed rows are enough to look for one below a sum of norm e: those of at most half of a measure, where
+    /// the lists are known to be the defined ones.
+    fn enough_for(&self, e: u64) -> Halves
         requires { IsNextNorm self.now.listed self.now.waiting self.now.norm e }
         ensures { AreEnough self.now e result }
     {
         if self.ahead.defined {
-            rows_within(&self.listed, e / 2)
+            Halves {
+                rows: rows_within(&self.listed, e / 2),
+                by_x0: self.system.tool() == Tool::Zsolve,
+            }
         } else {
-            self.listed.len()
+            Halves {
+                rows: self.listed.len(),
+                by_x0: false,
+            }
         }
     }
 
@@ -726,7 +748,7 @@ impl Stage {
             e,
             self.sieve.kept(e),
         )?;
-        opened.half = self.enough_for(e);
+        opened.halves = self.enough_for(e);
         opened.defined = self.ahead.defined;
         self.ahead = opened;
         Ok(())

@@ -58,7 +58,7 @@ add-requires-2-clause-positive c =
 pub invariant_of-self-2 : goal.invariant_of-self-2
 invariant_of-self-2 c =
     holds_after c.self.inside.system c.self.inside.number c.self.inside.norm c.self.inside.before c.args.closed.now.norm c.args.limit c.self.inside.waited c.self.inside.used c.self.inside.listed c.list_rows.new.listed c.self.inside.tree c.list_rows.new.tree c.self.inside.waiting
-    c.self.inside.plus.items c.self.inside.minus.items c.add_class.new.classes.items c.add_class-2.new.classes.items c.self.inside.sieve c.self.inside.following (record { known = false; next = c.self.inside.following.next }) c.self.inside.tally c.add.new.self c.add-2.new.self c.self.inside.ahead (record { known = false; norm = c.self.inside.ahead.norm; pairs = c.self.inside.ahead.pairs; half = c.self.inside.ahead.half; defined = c.self.inside.ahead.defined }) c.in_ok-growth.growth
+    c.self.inside.plus.items c.self.inside.minus.items c.add_class.new.classes.items c.add_class-2.new.classes.items c.self.inside.sieve c.self.inside.following (record { known = false; next = c.self.inside.following.next }) c.self.inside.tally c.add.new.self c.add-2.new.self c.self.inside.ahead (record { known = false; norm = c.self.inside.ahead.norm; pairs = c.self.inside.ahead.pairs; halves = c.self.inside.ahead.halves; defined = c.self.inside.ahead.defined }) c.in_ok-growth.growth
     c.self.invariant (subst (λ (s : StageValue). IsNextNorm s.listed s.waiting s.norm c.args.closed.now.norm) (sym c.self.view_is) c.requires.next) c.requires.small c.requires.limit
     (subst (λ (s : StageValue). IsGrowth s c.args.closed.now.norm c.args.limit c.in_ok-growth.growth) (sym c.self.view_is) c.in_ok-growth.ensures)
     (c.list_rows.ensures.width ∙ c.make_room.ensures.listed.0)
