@@ -6,7 +6,7 @@ ghost use Rattle.std.specs.List.Sorted.{IsStrictlySortedBy};
 ghost use Rattle.int_vector.specs.Vectors.{◌⊑◌, norm};
 ghost use Rattle.int_vector.specs.Operations.{add};
 ghost use Rattle.lift_core.specs.Lists.{IsListOf};
-ghost use Rattle.lift_core.specs.PairSums.{IsIrreducible, HasSum};
+ghost use Rattle.lift_core.specs.PairSums.{IsIrreducible, HasSum, IsNewSum};
 ghost use Rattle.lift_core.specs.Stages.{IsPair, IsNextNorm, HasNoNextNorm, stage_norm, last, pairs_within};
 ghost use Rattle.lift_core.specs.ToolSystems.{width};
 ghost use Rattle.lift_core.specs.Systems.{Solves};
@@ -29,7 +29,7 @@ use crate::counting::{pairs_within, rows_within};
 use crate::growing::{add_class, class_of, list_rows, make_room, merged_rows, waits_up_to};
 use crate::lifting::{extended, kept_solutions, units};
 use crate::numbered::{Hints, gather_all, take_opened, take_range};
-use crate::opened::{Opened, open_norm};
+use crate::opened::{OpenPair, Opened, open_norm};
 use crate::order::in_order;
 use crate::rebuilding::{classes_of, tree_of};
 use crate::sieve::Sieve;
@@ -514,6 +514,19 @@ impl Stage {
         }
     }
 
+    /// The same for the open pairs of the norm. Where none is open there is nothing to look for, so nothing is searched for how
+    /// many are enough.
+    fn half_for(&self, pairs: &[OpenPair], e: u64) -> u32
+        requires { IsNextNorm self.now.listed self.now.waiting self.now.norm e }
+        ensures { AreEnough self.now e result }
+    {
+        if pairs.is_empty() {
+            self.listed.len()
+        } else {
+            self.enough_for(e)
+        }
+    }
+
     /// The same stage, whose lists are known to be the defined ones where that is told.
     fn vouched(mut self, defined: bool) -> Stage
         requires { IsTrue defined → IsDefined self }
@@ -584,6 +597,31 @@ impl Stage {
         }
     }
 
+    /// Whether a norm is opened, and no pair of it is open: then none has an irreducible sum.
+    fn has_no_sums(&self, norm: u64) -> bool
+        ensures { IsTrue result
+            → (z : List ℤ) → IsNewSum self.now.system.equations self.now.listed norm z → ⊥ }
+    {
+        if self.ahead.known && self.ahead.norm == norm {
+            self.ahead.pairs.is_empty()
+        } else {
+            false
+        }
+    }
+
+    /// The norm without irreducible sums, where it is known to have none: then none of its pairs is looked at.
+    pub fn closed_without_sums(&self, alloc: Global, norm: u64) -> Option<Closed>
+        ensures { IfSome result (IsClosedNorm self.now norm) }
+    {
+        if !self.has_no_sums(norm) {
+            return None;
+        }
+        Some(Closed {
+            norm,
+            rows: Pool::new(alloc, self.system.width() + 1),
+        })
+    }
+
     /// The irreducible sums of the next norm.
     pub fn sums(&self, alloc: Global, norm: u64) -> Result<Closed, AllocError>
         requires next { IsNextNorm self.now.listed self.now.waiting self.now.norm norm }
@@ -591,6 +629,9 @@ impl Stage {
         ensures { IfOk result (IsClosedNorm self.now norm) }
     {
         self.keeps();
+        if let Some(closed) = self.closed_without_sums(alloc, norm) {
+            return Ok(closed);
+        }
         let rows = gather_all(alloc, self, norm, self.pairs_at(norm))?;
         let none = Pool::new(alloc, rows.width());
         Ok(Closed {
@@ -726,7 +767,7 @@ impl Stage {
             e,
             self.sieve.kept(e),
         )?;
-        opened.half = self.enough_for(e);
+        opened.half = self.half_for(&opened.pairs, e);
         opened.defined = self.ahead.defined;
         self.ahead = opened;
         Ok(())

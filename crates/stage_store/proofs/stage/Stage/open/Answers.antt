@@ -45,6 +45,6 @@ invariant_of-self c =
         opens = λ t. subst (λ (n : ℕ). IsOpen (value_of c.self.inside.system c.self.inside.number c.self.inside.norm c.self.inside.before c.self.inside.listed.rows (drop c.self.inside.waited c.self.inside.waiting.rows)) n c.in_ok-opened.opened.pairs.items) (sym c.in_ok-opened.ensures.norm)
             (opened_is_open (value_of c.self.inside.system c.self.inside.number c.self.inside.norm c.self.inside.before c.self.inside.listed.rows (drop c.self.inside.waited c.self.inside.waiting.rows)) c.self.inside.plus.items c.self.inside.minus.items c.args.e
             i.plus_classes i.minus_classes c.self.inside.sieve c.kept.result.now c.in_ok-opened.opened.pairs.items i.stage i.sieve_is rows above knows.1 c.kept.ensures a c.in_ok-opened.ensures.ascending);
-        enough = λ t. subst₂ (λ (s : StageValue) (n : ℕ). AreEnough s n c.enough_for.result) (sym c.self.view_is) (sym c.in_ok-opened.ensures.norm) c.enough_for.ensures;
+        enough = λ t. subst₂ (λ (s : StageValue) (n : ℕ). AreEnough s n c.half_for.result) (sym c.self.view_is) (sym c.in_ok-opened.ensures.norm) c.half_for.ensures;
       };
     }
