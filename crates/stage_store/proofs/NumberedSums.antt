@@ -194,6 +194,11 @@ none_open s e opens h empty z n =
     let i : IsSumNumbered s e 0 (length (pairs_of s.listed e)) z = sum_numbered s e (length (pairs_of s.listed e)) refl z n in
     absurd (omega (arith, empty, (h.whole i.number z i.below i.sum).1.1))
 
+-- no row is the list of what has no member
+pub list_of_none : (P : List ℤ → Type 0) → ((z : List ℤ) → P z → ⊥) → (rows : List (List ℤ)) → rows ≡ [] → IsListOf norm_cmp P rows
+unfolding IsStrictlySortedBy
+list_of_none P none rows is = subst (λ (l : List (List ℤ)). IsListOf norm_cmp P l) (sym is) (record { ascending = tt; members = λ z. (λ c. absurd (contains_nothing z c), λ p. absurd (none z p)) })
+
 -- what is written over the front of a vector of the same length
 pub written_length : (len : ℕ) (new old : List ℤ) → length new ≡ len → length (take len (new ++ drop (length new) old)) ≡ len
 written_length len new old e = length-take-le len (new ++ drop (length new) old) (omega (arith, e, length-append new (drop (length new) old)))
