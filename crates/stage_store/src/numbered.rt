@@ -33,7 +33,8 @@ const WAYS: usize = 4;
 #[derive(Drop)]
 pub struct Hints {
     reducers: Vec<u32>,
-    /// Where sums were put among the rows that were found, by a hash of the sum: the last ones of each hash, the latest first.
+    /// Where sums were put among the rows that were found, by a hash of the sum: the last ones of
+    /// each hash, the latest first.
     found: Vec<u32>,
 }
 

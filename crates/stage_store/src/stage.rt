@@ -514,8 +514,8 @@ impl Stage {
         }
     }
 
-    /// The same for the open pairs of the norm. Where none is open there is nothing to look for, so nothing is searched for how
-    /// many are enough.
+    /// The same for the open pairs of the norm. Where none is open there is nothing to look for, so
+    /// it is not found out how many are enough.
     fn half_for(&self, pairs: &[OpenPair], e: u64) -> u32
         requires { IsNextNorm self.now.listed self.now.waiting self.now.norm e }
         ensures { AreEnough self.now e result }
@@ -600,7 +600,8 @@ impl Stage {
     /// Whether a norm is opened, and no pair of it is open: then none has an irreducible sum.
     fn has_no_sums(&self, norm: u64) -> bool
         ensures { IsTrue result
-            → (z : List ℤ) → IsNewSum self.now.system.equations self.now.listed norm z → ⊥ }
+            → (z : List ℤ) → IsNewSum self.now.system.equations self.now.listed norm z
+            → ⊥ }
     {
         if self.ahead.known && self.ahead.norm == norm {
             self.ahead.pairs.is_empty()
@@ -609,7 +610,8 @@ impl Stage {
         }
     }
 
-    /// The norm without irreducible sums, where it is known to have none: then none of its pairs is looked at.
+    /// The norm without irreducible sums, where it is known to have none: then none of its pairs is
+    /// looked at.
     pub fn closed_without_sums(&self, alloc: Global, norm: u64) -> Option<Closed>
         ensures { IfSome result (IsClosedNorm self.now norm) }
     {

@@ -104,7 +104,8 @@ impl Tally {
         self.add_from(others, class, from);
     }
 
-    /// The same, where the first place is known of a class that has no pairs with this one below the norms that are counted.
+    /// The same, where the place is known from which on the pairs with this class have no norm below
+    /// those that are counted.
     fn add_from(&mut self, others: &[Class], class: &Class, from: usize)
         requires range { IsInRange self.old }
         requires sorted { IsStrictlySortedBy class_cmp others.now }
