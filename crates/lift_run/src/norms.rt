@@ -72,6 +72,9 @@ fn norm_sums<R: Threads + Sync, G: Gate + Sync>(
     requires most { workers ≤ 32 }
     ensures { IfOk result (IsClosedNorm stage.now norm) }
 {
+    if let Some(closed) = stage.closed_without_sums(alloc, norm) {
+        return Ok(closed);
+    }
     let passes = passes_for(stage.pairs_at(norm), stage.pairs_left(norm), workers);
     let (board, pass) = Board::start(alloc, stage, norm, passes)?;
     let (board, pass, left) = run_norm(rt, alloc, stage, norm, board, pass, gate)?;

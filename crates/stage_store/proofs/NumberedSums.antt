@@ -1,5 +1,5 @@
 -- The irreducible sums of pairs by their numbers: of a range of numbers, and of one.
-use Rattle.std.proofs.Common.{◌≡◌, ℕ, ◌+◌, ◌≤◌, ◌<◌, List, [], ◌∷◌, ◌++◌, length, ap, sym, ◌∙◌, subst, arith, inl, inr, ◌⊎◌}
+use Rattle.std.proofs.Common.{◌≡◌, ℕ, ◌+◌, ◌≤◌, ◌<◌, List, [], ◌∷◌, ◌++◌, length, ap, sym, refl, ◌∙◌, subst, arith, inl, inr, ◌⊎◌}
 use Rattle.std.specs.Prelude.{ℤ, ◌↔◌}
 use Rattle.std.specs.List.{Contains}
 use Rattle.std.proofs.lemmas.Bool.{cases_lt}
@@ -187,6 +187,17 @@ module _ (s : StageValue) (e pairs : ℕ) (count : pairs ≡ length (pairs_of s.
         ascending = norms_ascend e rows (λ z c. (sum_is_row s e z h (omega (arith, next.above)) small ((members z).0 c)).1) list.ascending;
         members = members;
       }
+
+-- a norm has no new sum where no pair of it is open
+pub none_open : (s : StageValue) (e : ℕ) (opens : List OpenPair) → IsOpen s e opens → length opens ≡ 0 → (z : List ℤ) → IsNewSum s.system.equations s.listed e z → ⊥
+none_open s e opens h empty z n =
+    let i : IsSumNumbered s e 0 (length (pairs_of s.listed e)) z = sum_numbered s e (length (pairs_of s.listed e)) refl z n in
+    absurd (omega (arith, empty, (h.whole i.number z i.below i.sum).1.1))
+
+-- no row is the list of what has no member
+pub list_of_none : (P : List ℤ → Type 0) → ((z : List ℤ) → P z → ⊥) → (rows : List (List ℤ)) → rows ≡ [] → IsListOf norm_cmp P rows
+unfolding IsStrictlySortedBy
+list_of_none P none rows is = subst (λ (l : List (List ℤ)). IsListOf norm_cmp P l) (sym is) (record { ascending = tt; members = λ z. (λ c. absurd (contains_nothing z c), λ p. absurd (none z p)) })
 
 -- what is written over the front of a vector of the same length
 pub written_length : (len : ℕ) (new old : List ℤ) → length new ≡ len → length (take len (new ++ drop (length new) old)) ≡ len

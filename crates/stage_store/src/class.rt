@@ -96,7 +96,7 @@ fn place_below(classes: &[Class], n: u64, from: usize) -> usize
 
 /// The first place of a norm that is not below n, where `count` of them are looked for one after another, and the last
 /// one was at `near`.
-fn place_next(classes: &[Class], n: u64, near: usize, count: usize) -> usize
+pub fn place_next(classes: &[Class], n: u64, near: usize, count: usize) -> usize
     requires { IsStrictlySortedBy class_cmp classes.now }
     ensures within { result ≤ length classes.now }
     ensures before { (k : ℕ) → k < result → norm_at classes.now k < n }

@@ -15,6 +15,7 @@ use crate::stage::Stage;
 use int_vector::{below, same};
 use row_pool::{Pool, RowId};
 use std::alloc::{AllocError, Global};
+use std::mem;
 
 /// How many pairs are gathered at a time.
 const BLOCK: u64 = 256;
@@ -25,12 +26,16 @@ const REDUCERS: usize = 16;
 /// How many places of sums that were found are remembered.
 const FOUND: usize = 4096;
 
+/// How many of them, one after another, are for the sums of one hash.
+const WAYS: usize = 4;
+
 /// What a worker remembers from one range of pairs to the next: the places of the listed rows that the last reducible
 /// sums were above, the likeliest first. No clause rests on it.
 #[derive(Drop)]
 pub struct Hints {
     reducers: Vec<u32>,
-    /// Where sums were put among the rows that were found, by a hash of the sum.
+    /// Where sums were put among the rows that were found, by a hash of the sum: the last ones of
+    /// each hash, the latest first.
     found: Vec<u32>,
 }
 
@@ -61,16 +66,23 @@ impl Hints {
     fn is_found(&self, slot: usize, rows: &Pool, sum: &[i64]) -> bool
         ensures { IsTrue result → Contains rows.now.rows sum.now }
     {
-        match self.found.get(slot) {
-            Some(place) => stands_at(rows, *place, sum),
-            None => false,
+        for k in 0..WAYS {
+            if let Some(place) = self.found.get(slot.saturating_add(k)) {
+                if stands_at(rows, *place, sum) {
+                    return true;
+                }
+            }
         }
+        false
     }
 
-    /// Keeps the place of a sum in mind.
+    /// Keeps the place of a sum in mind, in place of the oldest of its hash.
     fn note_found(&mut self, slot: usize, id: RowId) {
-        if let Some(place) = self.found.get_mut(slot) {
-            *place = id.0;
+        let mut latest = id.0;
+        for k in 0..WAYS {
+            if let Some(place) = self.found.get_mut(slot.saturating_add(k)) {
+                mem::swap(place, &mut latest);
+            }
         }
     }
 
@@ -103,7 +115,7 @@ fn slot_of(sum: &[i64]) -> usize {
         };
         weight = weight.rotate_left(7);
     }
-    (hash >> 52) as usize
+    (hash >> 54) as usize * WAYS
 }
 
 /// Which of some places has a listed row that is below a sum.

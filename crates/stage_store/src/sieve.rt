@@ -370,6 +370,10 @@ impl Sieve {
     {
         self.renew(alloc, system, listed, norm, next)?;
         self.shelves.close(norm, listed.len());
+        // Most norms list no row.
+        if self.rows == listed.len() {
+            return Ok(());
+        }
         self.sift_rows(alloc, system, listed, tree, norm)
     }
 

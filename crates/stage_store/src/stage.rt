@@ -1,12 +1,12 @@
 //! The stage, what it is seen as, and the calls that take it from norm to norm and to the next stage.
 
-ghost use Rattle.std.specs.Prelude.{◌≡◌, ◌↔◌, ◌+◌, ◌-◌, ◌*◌, ◌<◌, ◌≤◌, ◌^◌, ℕ, ℤ, pos, List, [], length, take, slice_index_or, All, MatchOption, IsTrue, IsFalse, false, ◌+ℤ◌, nat_abs, IfOk, OnOk};
+ghost use Rattle.std.specs.Prelude.{◌≡◌, ◌↔◌, ◌+◌, ◌-◌, ◌*◌, ◌<◌, ◌≤◌, ◌^◌, ℕ, ℤ, pos, List, [], length, take, slice_index_or, All, MatchOption, IsTrue, IsFalse, false, ◌+ℤ◌, nat_abs, IfSome, IfOk, OnOk};
 ghost use Rattle.std.specs.List.{AllZip, AllByRecursion};
 ghost use Rattle.std.specs.List.Sorted.{IsStrictlySortedBy};
 ghost use Rattle.int_vector.specs.Vectors.{◌⊑◌, norm};
 ghost use Rattle.int_vector.specs.Operations.{add};
 ghost use Rattle.lift_core.specs.Lists.{IsListOf};
-ghost use Rattle.lift_core.specs.PairSums.{IsIrreducible, HasSum};
+ghost use Rattle.lift_core.specs.PairSums.{IsIrreducible, HasSum, IsNewSum};
 ghost use Rattle.lift_core.specs.Stages.{IsPair, IsNextNorm, HasNoNextNorm, stage_norm, last, pairs_within};
 ghost use Rattle.lift_core.specs.ToolSystems.{width};
 ghost use Rattle.lift_core.specs.Systems.{Solves};
@@ -29,7 +29,7 @@ use crate::counting::{pairs_within, rows_within};
 use crate::growing::{add_class, class_of, list_rows, make_room, merged_rows, waits_up_to};
 use crate::lifting::{extended, kept_solutions, units};
 use crate::numbered::{Hints, gather_all, take_opened, take_range};
-use crate::opened::{Halves, Opened, open_norm};
+use crate::opened::{Halves, OpenPair, Opened, open_norm};
 use crate::order::in_order;
 use crate::rebuilding::{classes_of, tree_of};
 use crate::sieve::Sieve;
@@ -518,12 +518,13 @@ impl Stage {
     }
 
     /// Which of the listed rows are enough to look for one below a sum of norm e: those of at most half of a measure, where
-    /// the lists are known to be the defined ones.
-    fn enough_for(&self, e: u64) -> Halves
+    /// the lists are known to be the defined ones. Where no pair is open there is nothing to look for, and it is not found
+    /// out.
+    fn enough_for(&self, pairs: &[OpenPair], e: u64) -> Halves
         requires { IsNextNorm self.now.listed self.now.waiting self.now.norm e }
         ensures { AreEnough self.now e result }
     {
-        if self.ahead.defined {
+        if self.ahead.defined && !pairs.is_empty() {
             Halves {
                 rows: rows_within(&self.listed, e / 2),
                 by_x0: self.system.tool() == Tool::Zsolve,
@@ -606,6 +607,33 @@ impl Stage {
         }
     }
 
+    /// Whether a norm is opened, and no pair of it is open: then none has an irreducible sum.
+    fn has_no_sums(&self, norm: u64) -> bool
+        ensures { IsTrue result
+            → (z : List ℤ) → IsNewSum self.now.system.equations self.now.listed norm z
+            → ⊥ }
+    {
+        if self.ahead.known && self.ahead.norm == norm {
+            self.ahead.pairs.is_empty()
+        } else {
+            false
+        }
+    }
+
+    /// The norm without irreducible sums, where it is known to have none: then none of its pairs is
+    /// looked at.
+    pub fn closed_without_sums(&self, alloc: Global, norm: u64) -> Option<Closed>
+        ensures { IfSome result (IsClosedNorm self.now norm) }
+    {
+        if !self.has_no_sums(norm) {
+            return None;
+        }
+        Some(Closed {
+            norm,
+            rows: Pool::new(alloc, self.system.width() + 1),
+        })
+    }
+
     /// The irreducible sums of the next norm.
     pub fn sums(&self, alloc: Global, norm: u64) -> Result<Closed, AllocError>
         requires next { IsNextNorm self.now.listed self.now.waiting self.now.norm norm }
@@ -613,6 +641,9 @@ impl Stage {
         ensures { IfOk result (IsClosedNorm self.now norm) }
     {
         self.keeps();
+        if let Some(closed) = self.closed_without_sums(alloc, norm) {
+            return Ok(closed);
+        }
         let rows = gather_all(alloc, self, norm, self.pairs_at(norm))?;
         let none = Pool::new(alloc, rows.width());
         Ok(Closed {
@@ -748,7 +779,7 @@ impl Stage {
             e,
             self.sieve.kept(e),
         )?;
-        opened.halves = self.enough_for(e);
+        opened.halves = self.enough_for(&opened.pairs, e);
         opened.defined = self.ahead.defined;
         self.ahead = opened;
         Ok(())

@@ -1,15 +1,15 @@
 //! The numbers of pairs of some norms in a row, so that the next norm that has pairs is found by looking at a few numbers.
 
-ghost use Rattle.std.specs.Prelude.{◌≡◌, ◌+◌, ◌*◌, ◌<◌, ◌≤◌, ◌^◌, ◌⊎◌, ℕ, length, IfSome, IfOk, MatchOption};
+ghost use Rattle.std.specs.Prelude.{◌≡◌, ◌+◌, ◌-◌, ◌*◌, ◌<◌, ◌≤◌, ◌^◌, ◌⊎◌, ℕ, length, IfSome, IfOk, MatchOption};
 ghost use Rattle.std.specs.List.Sorted.{IsStrictlySortedBy};
 ghost use Rattle.stage_store.specs.Classes.{class_cmp, norm_at};
 ghost use Rattle.stage_store.specs.Tallies.{IsInRange, IsClear, HasRaised, HasGained, IsTally, IsNoted, IsNextNoted};
 
-use crate::class::{Class, place_from};
+use crate::class::{Class, place_from, place_next};
 use std::alloc::{AllocError, Global};
 
 /// The most norms whose pairs are counted.
-const MOST: u64 = 4096;
+const MOST: u64 = 65_536;
 
 /// The fewest norms that are counted at a time.
 const FEWEST: u64 = 16;
@@ -96,15 +96,32 @@ impl Tally {
         ensures range { IsInRange self.new }
         ensures gained { HasGained self.old self.new others.now class.now }
     {
+        // Most norms list no row.
+        if class.ids().is_empty() {
+            return;
+        }
+        let from = place_from(others, self.base.saturating_sub(class.norm()));
+        self.add_from(others, class, from);
+    }
+
+    /// The same, where the place is known from which on the pairs with this class have no norm below
+    /// those that are counted.
+    fn add_from(&mut self, others: &[Class], class: &Class, from: usize)
+        requires range { IsInRange self.old }
+        requires sorted { IsStrictlySortedBy class_cmp others.now }
+        requires positive { (k : ℕ) → k < length others.now → 0 < norm_at others.now k }
+        requires within { from ≤ length others.now }
+        requires before { (k : ℕ) → k < from
+            → norm_at others.now k < self.old.base - class.now.norm }
+        requires from { (k : ℕ) → from ≤ k → k < length others.now
+            → self.old.base - class.now.norm ≤ norm_at others.now k }
+        ensures range { IsInRange self.new }
+        ensures gained { HasGained self.old self.new others.now class.now }
+    {
         let Ok(firsts) = u32::try_from(class.ids().len()) else {
             self.span = 0;
             return;
         };
-        // Most norms list no row.
-        if firsts == 0 {
-            return;
-        }
-        let from = place_from(others, self.base.saturating_sub(class.norm()));
         for k in from..others.len() {
             let Some(place) = self.place(class.norm().saturating_add(others[k].norm())) else {
                 return;
@@ -135,7 +152,7 @@ impl Tally {
         }
     }
 
-    /// Counts the pairs of the norms from `base` on.
+    /// Counts the pairs of the norms from `base` on, by one walk over the classes of both signs.
     pub fn restart(&mut self, plus: &[Class], minus: &[Class], base: u64)
         requires range { IsInRange self.old }
         requires small { base < 2 ^ 63 }
@@ -144,8 +161,11 @@ impl Tally {
         ensures { IsTally plus.now minus.now self.new }
     {
         self.clear(base);
+        let mut near = minus.len();
         for class in plus {
-            self.add(minus, class);
+            let least = self.base.saturating_sub(class.norm());
+            near = place_next(minus, least, near, plus.len());
+            self.add_from(minus, class, near);
         }
     }
 }

@@ -1,6 +1,6 @@
 -- With the pairs of the closed norm dropped it is a sieve of the same rows for the norms above.
-use Rattle.std.proofs.Common.{refl, arith}
-use Rattle.stage_store.specs.Sieve.{IsSieve}
+use Rattle.std.proofs.Common.{◌∙◌, ℕ, sym, subst, refl, arith}
+use Rattle.stage_store.specs.Sieve.{IsSieve, IsSieveTo}
 use Rattle.stage_store.specs.declared.sieve.Sieve.{Sieve}
 use Rattle.stage_store.proofs.Sifting.{same_rows, still_sifted}
 use Rattle.stage_store.proofs.sieve.Sieve.sift_on.Goals as goal
@@ -18,6 +18,17 @@ pub sift_rows-requires-clause-upto : goal.sift_rows-requires-clause-upto
 sift_rows-requires-clause-upto c =
     let old : Sieve = c.renew.new.self in
     let held : IsSieve c.args.system.now.equations c.args.listed.now.rows c.args.norm c.renew.new.self = c.in_ok-renew.ensures.held in
+    (same_rows c.args.system.now.equations c.args.listed.now.rows c.args.norm c.renew.new.self
+    (record { rows = old.rows; reaches = old.reaches; mirror = old.mirror; plus = old.plus; minus = old.minus; shelves = c.close.new.self }) refl refl refl refl refl c.close.ensures.shelves (omega (arith, c.close.ensures.closed))
+    (still_sifted c.args.system.now.equations c.args.listed.now.rows old.rows old.shelves c.close.new.self c.close.ensures.kept held.upto.sifted) held).upto
+
+-- where no row was listed since, those that were sifted are all
+pub returns-then-self-len-clause-upto : goal.returns-then-self-len-clause-upto
+returns-then-self-len-clause-upto c =
+    let old : Sieve = c.renew.new.self in
+    let held : IsSieve c.args.system.now.equations c.args.listed.now.rows c.args.norm c.renew.new.self = c.in_ok-renew.ensures.held in
+    subst (λ (n : ℕ). IsSieveTo c.args.system.now.equations c.args.listed.now.rows c.args.norm n (record { rows = old.rows; reaches = old.reaches; mirror = old.mirror; plus = old.plus; minus = old.minus; shelves = c.close.new.self }))
+    (c.if-self-len.true ∙ c.len-2.ensures)
     (same_rows c.args.system.now.equations c.args.listed.now.rows c.args.norm c.renew.new.self
     (record { rows = old.rows; reaches = old.reaches; mirror = old.mirror; plus = old.plus; minus = old.minus; shelves = c.close.new.self }) refl refl refl refl refl c.close.ensures.shelves (omega (arith, c.close.ensures.closed))
     (still_sifted c.args.system.now.equations c.args.listed.now.rows old.rows old.shelves c.close.new.self c.close.ensures.kept held.upto.sifted) held).upto

@@ -1,19 +1,15 @@
 -- The classes up to k have added their products; from the first class on whose norm with this one lies beyond the tally
 -- none adds, as norms ascend.
-use Rattle.std.proofs.Common.{◌≡◌, ◌∙◌, ◌+◌, ◌*◌, ◌<◌, ◌≤◌, ℕ, length, ap, ap₂, arith, inl, inr}
+use Rattle.std.proofs.Common.{◌≡◌, ◌∙◌, ◌+◌, ◌-◌, ◌*◌, ◌<◌, ◌≤◌, ℕ, length, ap, ap₂, arith, inl, inr}
 use Rattle.stage_store.specs.Classes.{norm_at, class_norm}
 use Rattle.stage_store.proofs.Classes.{class_at, class_ids}
-use Rattle.stage_store.proofs.Tallies.{gained_without_rows, gained_none, gained_more, gained_all, all_beyond}
-use Rattle.stage_store.proofs.tally.Tally.add.Goals as goal
-
-pub returns-then-firsts-eq0-clause-gained : goal.returns-then-firsts-eq0-clause-gained
-returns-then-firsts-eq0-clause-gained c = gained_without_rows c.args.self.now c.args.others.now c.args.class.now (omega (arith, c.in-Ok.ensures.1, ap length c.ids.ensures, c.if-firsts-eq0.true))
+use Rattle.stage_store.proofs.Tallies.{gained_none, gained_more, gained_all, all_beyond}
+use Rattle.stage_store.proofs.tally.Tally.add_from.Goals as goal
 
 pub loop-k-init : goal.loop-k-init
 loop-k-init c = record {
   range = c.requires.range;
-  gained = gained_none c.args.self.now c.args.others.now c.args.class.now c.place_from-from.result c.place_from-from.ensures.within
-      (λ k l. omega (arith, c.place_from-from.ensures.before k l, c.saturating_sub.ensures, c.norm.ensures));
+  gained = gained_none c.args.self.now c.args.others.now c.args.class.now c.args.from c.requires.within c.requires.before;
 }
 
 pub returns-in_default-place-clause-gained : goal.returns-in_default-place-clause-gained
@@ -22,10 +18,10 @@ returns-in_default-place-clause-gained c =
     let k : ℕ = c.loop-k.k in
     let kl : c.loop-k.k < length c.args.others.now = omega (arith, c.loop-k-test.true) in
     let at : c.index-others-k.result.norm ≡ norm_at c.args.others.now c.loop-k.k = ap class_norm (class_at others k c.index-others-k.result kl c.index-others-k.is) in
-    let from : c.saturating_sub.result ≤ norm_at c.args.others.now c.loop-k.k = c.place_from-from.ensures.from k (omega (arith, c.loop-k.auto.k)) kl in
+    let from : c.args.self.now.base - c.args.class.now.norm ≤ norm_at c.args.others.now c.loop-k.k = c.requires.from k (omega (arith, c.loop-k.auto.k)) kl in
     let here : c.loop-k.self.base + c.loop-k.self.span ≤ c.args.class.now.norm + norm_at c.args.others.now c.loop-k.k = elim c.in_default-place.ensures [
-      | inl a ↦ absurd (omega (arith, a, from, at, c.saturating_sub.ensures, c.norm.ensures, c.saturating_add.ensures, c.norm-in-loop-k.ensures, c.norm-in-loop-k-2.ensures, c.loop-k.invariant.gained.base_is, c.requires.range.norms))
-      | inr b ↦ omega (arith, b, at, c.saturating_add.ensures, c.norm-in-loop-k.ensures, c.norm-in-loop-k-2.ensures)
+      | inl a ↦ absurd (omega (arith, a, from, at, c.saturating_add.ensures, c.norm.ensures, c.norm-in-loop-k.ensures, c.loop-k.invariant.gained.base_is, c.requires.range.norms))
+      | inr b ↦ omega (arith, b, at, c.saturating_add.ensures, c.norm.ensures, c.norm-in-loop-k.ensures)
     ] in
     gained_all c.args.self.now others c.args.class.now c.loop-k.self k (omega (arith, kl)) c.requires.positive c.loop-k.invariant.gained
     (all_beyond others k (c.loop-k.self.base + c.loop-k.self.span) c.args.class.now.norm c.requires.sorted here)
@@ -37,7 +33,7 @@ loop-k-preserved c =
     let kl : c.loop-k.k < length c.args.others.now = omega (arith, c.loop-k-test.true) in
     let at : c.index-others-k.result.norm ≡ norm_at c.args.others.now c.loop-k.k = ap class_norm (class_at others k c.index-others-k.result kl c.index-others-k.is) in
     let place : c.loop-k.self.base + c.in-Some.place ≡ c.args.class.now.norm + norm_at c.args.others.now c.loop-k.k =
-    omega (arith, c.in-Some.ensures.0, c.in-Some.ensures.1, at, c.saturating_add.ensures, c.norm-in-loop-k.ensures, c.norm-in-loop-k-2.ensures, c.loop-k.invariant.range.norms) in
+    omega (arith, c.in-Some.ensures.0, c.in-Some.ensures.1, at, c.saturating_add.ensures, c.norm.ensures, c.norm-in-loop-k.ensures, c.loop-k.invariant.range.norms) in
     record {
       range = c.raise.ensures.range;
       gained = gained_more c.args.self.now others c.args.class.now c.loop-k.self c.raise.new.self k c.in-Some.place _ kl (c.requires.positive k kl) c.loop-k.invariant.gained place

@@ -1,6 +1,6 @@
 use Rattle.std.proofs.Common.{take}
 use Rattle.stage_store.specs.Tallies.{IsInRange, HasGained}
-use Rattle.stage_store.proofs.tally.Tally.add.Given as goal
+use Rattle.stage_store.proofs.tally.Tally.add_from.Given as goal
 
 abbrev pub invariant-loop-k : goal.invariant-loop-k
 invariant-loop-k l = record {
