@@ -1,6 +1,6 @@
 -- The rows of an eight, or the last rows, as a part of a bucket; and the set of the rows that have no bit outside.
 -- What is left of the set are rows that have not been looked at: in the end none is left, and each other row is not below.
-use Rattle.std.proofs.Common.{◌≡◌, ◌≢◌, ℕ, zero, suc, ◌+◌, ◌-◌, ◌*◌, ◌%◌, ◌^◌, ◌≤◌, ◌<◌, ◌⊎◌, ◌↔◌, List, [], ◌∷◌, length, get_or, take, drop, sym, ap, ◌∙◌, subst, arith, inl, inr, None, Some}
+use Rattle.std.proofs.Common.{◌≡◌, ◌≢◌, ℕ, ◌+◌, ◌-◌, ◌*◌, ◌%◌, ◌^◌, ◌≤◌, ◌<◌, ◌⊎◌, List, length, get_or, take, drop, sym, ap, ◌∙◌, subst, arith, inl, inr, None, Some}
 use Rattle.std.specs.Prelude.{ℤ, bit_and}
 use Rattle.std.specs.Int.{bit_at, bit_not, trailing_zeros, w8}
 use Rattle.std.specs.List.{AllByRecursion}
@@ -12,25 +12,11 @@ use Rattle.std.proofs.lemmas.List.{get_or-take, get_or-drop, length-take, length
 use Rattle.std.proofs.lemmas.Nat.Bits.{bit_at-zero, bit_at-trailing_zeros}
 use Rattle.reduce_tree.specs.declared.bounds.Bounds.{Bounds}
 use Rattle.reduce_tree.specs.declared.tree.Filed.{Filed}
-use Rattle.reduce_tree.specs.Inside.Bounds.{word_of}
 use Rattle.reduce_tree.specs.Inside.Buckets.{nothing_filed, IsMarked, IsNotBelow, AreNoneBelow, IsBelowAt, IsSetOfApart}
 use Rattle.reduce_tree.proofs.Bits.{cleared_other}
 use Rattle.reduce_tree.proofs.Buckets.{filed_at}
 
 -- ---- a part of the rows
-all_dropped : (P : Filed → Type 0) (from : ℕ) (rows : List Filed) → AllByRecursion P rows → AllByRecursion P (drop from rows)
-all_dropped P zero rows h = h
-all_dropped P (suc from) [] h = h
-all_dropped P (suc from) (f ∷ rows) h = all_dropped P from rows h.1
-
-all_taken : (P : Filed → Type 0) (n : ℕ) (rows : List Filed) → AllByRecursion P rows → AllByRecursion P (take n rows)
-all_taken P zero rows h = tt
-all_taken P (suc n) [] h = h
-all_taken P (suc n) (f ∷ rows) h = (h.0, all_taken P n rows h.1)
-
-pub all_of_part : (P : Filed → Type 0) (n from : ℕ) (rows : List Filed) → AllByRecursion P rows → AllByRecursion P (take n (drop from rows))
-all_of_part P n from rows h = all_taken P n (drop from rows) (all_dropped P from rows h)
-
 module _ (bucket : List Filed) (n from : ℕ) where
   part_at : (k : ℕ) → k < n → get_or (take n (drop from bucket)) k nothing_filed ≡ get_or bucket (from + k) nothing_filed
   part_at k l = get_or-take n (drop from bucket) k nothing_filed l ∙ get_or-drop from bucket k nothing_filed
@@ -117,12 +103,3 @@ module _ (bucket : List Filed) (rows : List (List ℤ)) (z : List ℤ) (bounds :
       | inr p ↦ inr p
     ]
   ]
-
-  pub looked_at_ended : AreLookedAt bucket rows z bounds 0 → AreNoneBelow bucket rows z bounds (length bucket)
-  looked_at_ended left = λ k f l. elim (left k l) [
-    | inl s ↦ absurd (differ (bit_at 0 k) s (bit_at-zero k))
-    | inr p ↦ p
-  ]
-    where
-      differ : (x : ℕ) → x ≡ 1 → x ≡ 0 → ⊥
-      differ x e f = omega arith
