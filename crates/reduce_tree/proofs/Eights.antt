@@ -1,15 +1,18 @@
 -- The rows of an eight, or the last rows, as a part of a bucket; and the set of the rows that have no bit outside.
 -- What is left of the set are rows that have not been looked at: in the end none is left, and each other row is not below.
-use Rattle.std.proofs.Common.{◌≡◌, ◌≢◌, ℕ, ◌+◌, ◌-◌, ◌*◌, ◌%◌, ◌^◌, ◌≤◌, ◌<◌, ◌⊎◌, List, length, get_or, take, drop, sym, ap, ◌∙◌, subst, arith, inl, inr, None, Some}
-use Rattle.std.specs.Prelude.{ℤ, bit_and}
+use Rattle.std.proofs.Common.{◌≡◌, ◌≢◌, ℕ, ◌+◌, ◌-◌, ◌*◌, ◌%◌, ◌^◌, ◌≤◌, ◌<◌, ◌⊎◌, List, length, get_or, take, drop, sym, ap, ◌∙◌, subst, arith, inl, inr, None, Some, refl, eqb, zero, suc}
+use Rattle.std.specs.Prelude.{ℤ, bit_and, bit_or}
 use Rattle.std.specs.Int.{bit_at, bit_not, trailing_zeros, w8}
 use Rattle.std.specs.List.{AllByRecursion}
+use Rattle.std.specs.Int.Bits.{or_zero_r}
+use Rattle.std.proofs.Math.Dec.{eqb-suc-zero}
+use mir.Val.{bool_byte}
 use Rattle.std.specs.Option.{MatchOption}
 use Rattle.std.specs.declared.option.Option.{Option}
 use Rattle.row_pool.specs.declared.RowId.{RowId}
 use Rattle.std.proofs.lemmas.Bool.{cases_lt, cases_eq}
 use Rattle.std.proofs.lemmas.List.{get_or-take, get_or-drop, length-take, length-drop}
-use Rattle.std.proofs.lemmas.Nat.Bits.{bit_at-zero, bit_at-trailing_zeros}
+use Rattle.std.proofs.lemmas.Nat.Bits.{bit_at-zero, bit_at-trailing_zeros, bit_at_set_same, bit_at_set_other}
 use Rattle.reduce_tree.specs.declared.bounds.Bounds.{Bounds}
 use Rattle.reduce_tree.specs.declared.tree.Filed.{Filed}
 use Rattle.reduce_tree.specs.Inside.Buckets.{nothing_filed, IsMarked, IsNotBelow, AreNoneBelow, IsBelowAt, IsSetOfApart}
@@ -78,6 +81,25 @@ module _ (bucket : List Filed) (outside : ℕ) where
         ((λ s. let h = (before k).0 s in (omega (arith, h.0), h.1)),
         (λ h. (before k).1 (omega (arith, d, h.0), h.1)))
   ]
+
+  -- the number of a row is put in as a 0 or a 1 that is moved to its bit
+  pub apart_next : (to set flag : ℕ) → to < 8 → IsSetOfApart bucket outside to set → flag ≡ bool_byte (eqb (bit_and (get_or bucket to nothing_filed).bits outside) 0)
+      → IsSetOfApart bucket outside (to + 1) (bit_or set (flag * 2 ^ to % 2 ^ 8))
+  apart_next to set flag small before e = elim (flag_cases (bit_and (get_or bucket to nothing_filed).bits outside) flag e) [
+    | inl h ↦
+        subst (λ m. IsSetOfApart bucket outside (to + 1) (bit_or set (m * 2 ^ to % 2 ^ 8))) (sym h.1)
+        (apart_more to set (bit_or set (1 * 2 ^ to % 2 ^ 8)) before h.0 (bit_at_set_same w8 set to small) (bit_at_set_other w8 set to small))
+    | inr h ↦
+        subst (λ m. IsSetOfApart bucket outside (to + 1) (bit_or set (m * 2 ^ to % 2 ^ 8))) (sym h.1)
+        (subst (IsSetOfApart bucket outside (to + 1)) (sym (or_none set)) (apart_same to set before h.0))
+  ]
+    where
+      flag_cases : (x flag : ℕ) → flag ≡ bool_byte (eqb x 0) → ((x ≡ 0) × (flag ≡ 1)) ⊎ ((x ≢ 0) × (flag ≡ 0))
+      flag_cases zero flag e = inl (refl, e)
+      flag_cases (suc x) flag e = inr ((λ h. absurd (omega (arith, h))), e ∙ ap bool_byte (eqb-suc-zero x))
+
+      or_none : (n : ℕ) → bit_or n (0 * 2 ^ to % 2 ^ 8) ≡ n
+      or_none n = let e : 0 * 2 ^ to % 2 ^ 8 ≡ 0 = omega arith in ap (bit_or n) e ∙ or_zero_r n
 
 -- ---- the loop over the set
 pub first_set : (set : ℕ) → set ≢ 0 → set < 2 ^ 8 → (trailing_zeros w8 set < 8) × (bit_at set (trailing_zeros w8 set) ≡ 1)

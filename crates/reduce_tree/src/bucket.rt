@@ -147,9 +147,8 @@ fn set_of_apart(rows: &[Filed], outside: u128) -> u8
     // Without a branch on a row: the rows of an eight are asked side by side.
     let mut set = 0;
     for k in 0..rows.len() {
-        if rows[k].bits & outside == 0 {
-            set |= 1_u8 << k;
-        }
+        let is_apart = rows[k].bits & outside == 0;
+        set |= u8::from(is_apart) << k;
     }
     set
 }
