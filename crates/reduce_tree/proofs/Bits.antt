@@ -1,7 +1,8 @@
 -- Sets of bits: the union and the common bits of two, and a test for a part.
 use Rattle.std.proofs.Common.{◌≡◌, ◌≢◌, ℕ, ◌-◌, ◌*◌, ◌%◌, ◌^◌, ◌≤◌, ◌<◌, max, min, sym, ap, ◌∙◌, arith, inl, inr}
 use Rattle.std.specs.Prelude.{bit_or, bit_and}
-use Rattle.std.specs.Int.{bit_at, bit_not, w128}
+use Rattle.std.specs.Int.{Width, bit_at, bit_not, w128}
+use mir.Val.{bits}
 use Rattle.std.proofs.lemmas.Bool.{cases_lt}
 use Rattle.std.proofs.lemmas.Nat.Bits.{bit_at_or, bit_at_and, bit_at_not, bit_at-zero, bit_at-lt, bit_at_above, bit_at_clear_same, bit_at_clear_other, same_from_bits}
 use Rattle.std.proofs.lemmas.Nat.{and_le_l}
@@ -90,21 +91,27 @@ set_shared a b i e f = shared (bit_at a i) (bit_at b i) (bit_at (bit_and a b) i)
     shared : (x y u : ℕ) → x ≡ 1 → y ≡ 1 → u ≡ min x y → u ≡ 1
     shared x y u e f m = omega arith
 
-pub set_inside : (n i : ℕ) → n < 2 ^ 128 → bit_at n i ≡ 1 → i < 128
-set_inside n i l e = elim (cases_lt i 128) [
+pub set_of_both : (a b i : ℕ) → bit_at (bit_and a b) i ≡ 1 → bit_at a i ≡ 1
+set_of_both a b i e = first (bit_at a i) (bit_at b i) (bit_at (bit_and a b) i) e (bit_at_and a b i) (bit_at-lt a i)
+  where
+    first : (x y u : ℕ) → u ≡ 1 → u ≡ min x y → x < 2 → x ≡ 1
+    first x y u e m l = omega arith
+
+pub set_inside : (w : Width) (n i : ℕ) → n < 2 ^ bits w → bit_at n i ≡ 1 → i < bits w
+set_inside w n i l e = elim (cases_lt i (bits w)) [
   | inl h ↦ h
-  | inr h ↦ absurd (one_or_zero (bit_at n i) e (bit_at_above n 128 i l h))
+  | inr h ↦ absurd (one_or_zero (bit_at n i) e (bit_at_above n (bits w) i l h))
 ]
   where
     one_or_zero : (x : ℕ) → x ≡ 1 → x ≡ 0 → ⊥
     one_or_zero x e f = omega arith
 
 -- the set without one of its members is smaller, and has the others
-pub cleared_less : (n k : ℕ) → k < 128 → bit_at n k ≡ 1 → bit_and n (bit_not w128 (1 * 2 ^ k % 2 ^ 128)) < n
-cleared_less n k l e = elim (cases_lt (bit_and n (bit_not w128 (1 * 2 ^ k % 2 ^ 128))) n) [
+pub cleared_less : (w : Width) (n k : ℕ) → k < bits w → bit_at n k ≡ 1 → bit_and n (bit_not w (1 * 2 ^ k % 2 ^ bits w)) < n
+cleared_less w n k l e = elim (cases_lt (bit_and n (bit_not w (1 * 2 ^ k % 2 ^ bits w))) n) [
   | inl h ↦ h
-  | inr h ↦ absurd (differ (bit_at n k) (bit_at (bit_and n (bit_not w128 (1 * 2 ^ k % 2 ^ 128))) k) e (bit_at_clear_same w128 n k l)
-      (ap (λ m. bit_at m k) (same n (bit_and n (bit_not w128 (1 * 2 ^ k % 2 ^ 128))) h (and_le_l n (bit_not w128 (1 * 2 ^ k % 2 ^ 128))))))
+  | inr h ↦ absurd (differ (bit_at n k) (bit_at (bit_and n (bit_not w (1 * 2 ^ k % 2 ^ bits w))) k) e (bit_at_clear_same w n k l)
+      (ap (λ m. bit_at m k) (same n (bit_and n (bit_not w (1 * 2 ^ k % 2 ^ bits w))) h (and_le_l n (bit_not w (1 * 2 ^ k % 2 ^ bits w))))))
 ]
   where
     differ : (x y : ℕ) → x ≡ 1 → y ≡ 0 → x ≡ y → ⊥
@@ -113,5 +120,5 @@ cleared_less n k l e = elim (cases_lt (bit_and n (bit_not w128 (1 * 2 ^ k % 2 ^ 
     same : (m x : ℕ) → m ≤ x → x ≤ m → m ≡ x
     same m x h k = omega arith
 
-pub cleared_other : (n k c : ℕ) → n < 2 ^ 128 → k < 128 → c ≢ k → bit_at n c ≡ 1 → bit_at (bit_and n (bit_not w128 (1 * 2 ^ k % 2 ^ 128))) c ≡ 1
-cleared_other n k c fits l d e = bit_at_clear_other w128 n k l c (set_inside n c fits e) d ∙ e
+pub cleared_other : (w : Width) (n k c : ℕ) → n < 2 ^ bits w → k < bits w → c ≢ k → bit_at n c ≡ 1 → bit_at (bit_and n (bit_not w (1 * 2 ^ k % 2 ^ bits w))) c ≡ 1
+cleared_other w n k c fits l d e = bit_at_clear_other w n k l c (set_inside w n c fits e) d ∙ e

@@ -1,18 +1,16 @@
 -- Buckets: what a word rules out, and the words once one row more is filed.
 -- A word is true of each row of its group, so where the bounds do not admit it they admit no row of the group.
-use Rattle.std.proofs.Common.{◌≡◌, ◌≢◌, ℕ, zero, suc, ◌+◌, ◌-◌, ◌/◌, ◌%◌, ◌≤◌, ◌<◌, List, [], ◌∷◌, ◌++◌, false, length, get_or, take, drop, sym, ap, ◌∙◌, subst, arith, inl, inr, length-append, ◌⊎◌}
+use Rattle.std.proofs.Common.{◌≡◌, ◌≢◌, ℕ, zero, suc, ◌+◌, ◌-◌, ◌/◌, ◌%◌, ◌≤◌, ◌<◌, List, [], ◌∷◌, ◌++◌, length, get_or, take, drop, sym, ap, ◌∙◌, subst, arith, inl, inr, length-append, ◌⊎◌}
 use Rattle.std.specs.Prelude.{ℤ, bit_and, min}
-use Rattle.std.specs.Bool.{IsTrue}
 use Rattle.std.specs.List.{AllByRecursion}
 use Rattle.std.proofs.lemmas.Bool.{cases_lt}
 use Rattle.std.proofs.lemmas.List.{take_all, get_or_append_left, get_or-take, length-take, length-drop, get_or-drop}
 use Rattle.std.proofs.Math.Seq.{get_or-append_seam}
-use Rattle.int_vector.specs.Vectors.{◌⊑◌}
 use Rattle.reduce_tree.specs.declared.bounds.Bounds.{Bounds}
 use Rattle.reduce_tree.specs.declared.bounds.Word.{Word}
 use Rattle.reduce_tree.specs.declared.tree.Filed.{Filed}
 use Rattle.reduce_tree.specs.Inside.Bounds.{Admits, word_of, Covers}
-use Rattle.reduce_tree.specs.Inside.Buckets.{nothing_filed, no_word, AreCommon, IsRuledOut, IsMarked, IsNotBelow, AreNoneBelow}
+use Rattle.reduce_tree.specs.Inside.Buckets.{nothing_filed, no_word, AreCommon, IsRuledOut, IsMarked, AreNoneBelow}
 use Rattle.reduce_tree.proofs.Bits.{part_apart, part_trans, and_part_first, and_part_second}
 
 -- ---- the search
@@ -40,15 +38,6 @@ passed_over size bucket words rows z bounds n to marked common out group none = 
       out.1 (admits_word bounds (get_or words n no_word) (get_or bucket k nothing_filed)
       (subst (λ i. Covers (get_or words i no_word) (get_or bucket k nothing_filed)) e (common.covers k l (subst (λ i. i < length words) (sym e) out.0)))
       ((filed_at (IsMarked rows z bounds) bucket k marked l).admitted below before))
-]
-
-pub none_more : (bucket : List Filed) (rows : List (List ℤ)) (z : List ℤ) (bounds : Bounds) (to : ℕ) → AreNoneBelow bucket rows z bounds to → (to < length bucket → IsNotBelow rows z bounds (get_or bucket to nothing_filed))
-    → AreNoneBelow bucket rows z bounds (to + 1)
-none_more bucket rows z bounds to none here = λ k f l. elim (cases_lt k to) [
-  | inl h ↦ none k h l
-  | inr h ↦
-      let e : to ≡ k = omega (arith, f, h) in
-      subst (λ i. i < length bucket → IsNotBelow rows z bounds (get_or bucket i nothing_filed)) e here l
 ]
 
 -- ---- the words once there is one row more
@@ -153,16 +142,3 @@ covers_step rows i size place word before s p k l = elim (cases_lt k i) [
   where
     at_most : (a b d e : ℕ) → a ≡ min b d → b ≤ e → a ≤ e
     at_most a b d e m l = omega arith
-
--- ---- one row that is looked at
-pub not_admitted : (bucket : List Filed) (rows : List (List ℤ)) (z : List ℤ) (bounds : Bounds) (k : ℕ) (f : Filed) (word : Word) → AllByRecursion (IsMarked rows z bounds) bucket → k < length bucket
-    → f ≡ get_or bucket k nothing_filed → word ≡ word_of f → (Admits bounds word → IsTrue false) → IsNotBelow rows z bounds (get_or bucket k nothing_filed)
-not_admitted bucket rows z bounds k f word marked l e w out = λ before below.
-    let h = out (subst (λ (v : Word). Admits bounds v) (sym w) (subst (λ (g : Filed). Admits bounds (word_of g)) (sym e) ((filed_at (IsMarked rows z bounds) bucket k marked l).admitted below before))) in
-    absurd cc
-
-pub not_below : (bucket : List Filed) (rows : List (List ℤ)) (z row : List ℤ) (bounds : Bounds) (k : ℕ) (f : Filed) → f ≡ get_or bucket k nothing_filed → row ≡ get_or rows f.place [] → (row ⊑ z → IsTrue false)
-    → IsNotBelow rows z bounds (get_or bucket k nothing_filed)
-not_below bucket rows z row bounds k f e r out = λ before below.
-    let h = out (subst (λ (v : List ℤ). v ⊑ z) (sym r) (subst (λ (g : Filed). get_or rows g.place [] ⊑ z) (sym e) below)) in
-    absurd cc

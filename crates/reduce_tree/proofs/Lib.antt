@@ -1,5 +1,6 @@
 pub mod Bits
 pub mod Buckets
+pub mod Eights
 pub mod Filing
 pub mod Inserts
 pub mod Pools

@@ -29,6 +29,10 @@ impl Bounds {
     pub fn admit(&self, word: &Word) -> bool
         ensures { IsTrue result ↔ Admits self.now word.now }
     {
-        word.bits & self.outside == 0 && word.size <= self.size && word.place < self.end
+        // Most words have such a bit: to ask this alone first is faster than to ask all three.
+        if word.bits & self.outside != 0 {
+            return false;
+        }
+        word.size <= self.size && word.place < self.end
     }
 }

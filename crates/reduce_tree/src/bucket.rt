@@ -3,7 +3,8 @@
 ghost use Rattle.std.specs.Prelude.{◌≡◌, ◌⊎◌, ◌%◌, ◌+◌, ◌-◌, ◌<◌, ◌≤◌, ◌^◌, ◌++◌, ◌∷◌, ℕ, [], length, take, drop, slice_index_or, MatchOption, OnOk, OnErr, IsTrue, ◌↔◌, vec_len, vec_capacity};
 ghost use Rattle.std.specs.List.{AllByRecursion};
 ghost use Rattle.reduce_tree.specs.Inside.Bounds.{Covers};
-ghost use Rattle.reduce_tree.specs.Inside.Buckets.{nothing_filed, AreCommon, IsRuledOut, IsMarked, AreNoneBelow, IsBelowAt};
+ghost use Rattle.reduce_tree.specs.Inside.Buckets.{nothing_filed, AreCommon, IsRuledOut, IsMarked, AreNoneBelow, IsBelowAt, IsSetOfApart};
+ghost use Rattle.int_vector.specs.Vectors.{◌⊑◌};
 
 use crate::bounds::{Bounds, Word};
 use crate::tree::Filed;
@@ -90,29 +91,108 @@ impl Bucket {
             (AreNoneBelow self.now pool.now.rows z.now bounds.now (length self.now))
             (λ id. IsBelowAt self.now pool.now.rows z.now bounds.now id.0) }
     {
-        let count = self.rows.len();
-        let mut k = 0;
-        while k < count {
-            if k % 64 == 0 && rules_out(&self.blocks, k / 64, bounds) {
-                k += 64;
+        let whole = self.eights.len();
+        let mut eight = 0;
+        while eight < whole {
+            if eight % 8 == 0 && rules_out(&self.blocks, eight / 8, bounds) {
+                eight += 8;
                 continue;
             }
-            if k % 8 == 0 && rules_out(&self.eights, k / 8, bounds) {
-                k += 8;
-                continue;
-            }
-            let filed = &self.rows[k];
-            if bounds.admit(&filed.word()) {
-                visits.add();
-                let id = RowId(filed.place);
-                if below(pool.row(id), z) {
+            if !rules_out(&self.eights, eight, bounds) {
+                let rows = &self.rows[8 * eight..8 * eight + 8];
+                if let Some(id) = find_in_eight(rows, pool, z, bounds, visits) {
                     return Some(id);
                 }
             }
-            k += 1;
+            eight += 1;
         }
-        None
+        find_among(&self.rows[8 * whole..], pool, z, bounds, visits)
     }
+}
+
+/// The place of one of at most eight rows that is below z and stands before the end.
+///
+/// The signatures of all are asked first, and of the other numbers only those of the few rows whose signature is part of
+/// that of z.
+fn find_in_eight(
+    rows: &[Filed],
+    pool: &Pool,
+    z: &[i64],
+    bounds: &Bounds,
+    visits: &mut Visits,
+) -> Option<RowId>
+    requires few { length rows.now ≤ 8 }
+    requires marked { AllByRecursion (IsMarked pool.now.rows z.now bounds.now) rows.now }
+    requires width { pool.now.width ≡ length z.now }
+    ensures { MatchOption result
+        (AreNoneBelow rows.now pool.now.rows z.now bounds.now (length rows.now))
+        (λ id. IsBelowAt rows.now pool.now.rows z.now bounds.now id.0) }
+{
+    let mut rest = set_of_apart(rows, bounds.outside);
+    while rest != 0 {
+        let k = rest.trailing_zeros() as usize;
+        rest &= !(1_u8 << k);
+        if is_found(&rows[k], pool, z, bounds, visits) {
+            return Some(RowId(rows[k].place));
+        }
+    }
+    None
+}
+
+/// The set of the numbers of those of at most eight rows that have none of the bits outside.
+fn set_of_apart(rows: &[Filed], outside: u128) -> u8
+    requires { length rows.now ≤ 8 }
+    ensures { IsSetOfApart rows.now outside (length rows.now) result }
+{
+    // Without a branch on a row: the rows of an eight are asked side by side.
+    let mut set = 0;
+    for k in 0..rows.len() {
+        let is_apart = rows[k].bits & outside == 0;
+        set |= u8::from(is_apart) << k;
+    }
+    set
+}
+
+/// The place of one of these rows that is below z and stands before the end.
+fn find_among(
+    rows: &[Filed],
+    pool: &Pool,
+    z: &[i64],
+    bounds: &Bounds,
+    visits: &mut Visits,
+) -> Option<RowId>
+    requires marked { AllByRecursion (IsMarked pool.now.rows z.now bounds.now) rows.now }
+    requires width { pool.now.width ≡ length z.now }
+    ensures { MatchOption result
+        (AreNoneBelow rows.now pool.now.rows z.now bounds.now (length rows.now))
+        (λ id. IsBelowAt rows.now pool.now.rows z.now bounds.now id.0) }
+{
+    for filed in rows {
+        if is_found(filed, pool, z, bounds, visits) {
+            return Some(RowId(filed.place));
+        }
+    }
+    None
+}
+
+/// Whether the row is below z and stands before the end. Counts a visit where it is compared with z.
+fn is_found(
+    filed: &Filed,
+    pool: &Pool,
+    z: &[i64],
+    bounds: &Bounds,
+    visits: &mut Visits,
+) -> bool
+    requires marked { IsMarked pool.now.rows z.now bounds.now filed.now }
+    requires width { pool.now.width ≡ length z.now }
+    ensures { IsTrue result ↔ (filed.now.place < bounds.now.end)
+        × (slice_index_or pool.now.rows filed.now.place [] ⊑ z.now) }
+{
+    if !bounds.admit(&filed.word()) {
+        return false;
+    }
+    visits.add();
+    below(pool.row(RowId(filed.place)), z)
 }
 
 /// Whether there is a word for the group of this number, and it rules out that a row of it is looked for.

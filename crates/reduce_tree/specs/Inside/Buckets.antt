@@ -1,5 +1,6 @@
 -- Buckets: filed rows in the order in which they came, and words that are true of groups of neighbours.
-use Rattle.std.specs.Prelude.{◌≡◌, ℕ, ◌/◌, ◌<◌, ℤ, List, [], length, slice_index_or}
+use Rattle.std.specs.Prelude.{◌≡◌, ◌↔◌, ℕ, ◌/◌, ◌<◌, ℤ, List, [], length, slice_index_or, bit_and}
+use Rattle.std.specs.Int.{bit_at}
 use Rattle.int_vector.specs.Vectors.{◌⊑◌}
 use Rattle.reduce_tree.specs.declared.bounds.Bounds.{Bounds}
 use Rattle.reduce_tree.specs.declared.bounds.Word.{Word}
@@ -55,3 +56,9 @@ IsBelowAt bucket rows z bounds id =
     (k : ℕ) × (k < length bucket) × ((slice_index_or bucket k nothing_filed).place ≡ id)
     × (id < bounds.end)
     × (slice_index_or rows id [] ⊑ z)
+
+-- the set has the numbers of those of the first filed rows that have none of the bits outside, and no others
+abbrev pub IsSetOfApart : List Filed → ℕ → ℕ → ℕ → Type 0
+IsSetOfApart bucket outside to set =
+    (k : ℕ) → (bit_at set k ≡ 1)
+    ↔ (k < to) × (bit_and (slice_index_or bucket k nothing_filed).bits outside ≡ 0)
