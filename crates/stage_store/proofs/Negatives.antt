@@ -19,7 +19,8 @@ use Rattle.stage_store.specs.Found.{IsSumOf}
 use Rattle.stage_store.specs.Signs.{IsSigned}
 use Rattle.stage_store.specs.Lines.{IsSaid}
 use Rattle.stage_store.specs.Levels.{ReachesAt, MakesNone, BarsAt, BarsLine, AreTrue, is_plus}
-use Rattle.stage_store.specs.Mirror.{IsMirror, IsWholeMirror, IsTurnedTo, AreNegatives, AddsTurned, IsTurnedLevels, place_in, turned_place, turned_item}
+use Rattle.stage_store.specs.Mirror.{HasNegatives, IsMirror, IsWholeMirror, IsTurnedTo, AreNegatives, AddsTurned, IsTurnedLevels, place_in, turned_place, turned_item}
+use Rattle.stage_store.specs.SiftLaws.{NegativesHaveSums, NegativesMakeNone}
 use Rattle.stage_store.specs.Sieve.{HasNoNewSum, HasNoNewSumBy}
 
 -- ---- single entries
@@ -133,7 +134,7 @@ sum_turned S listed f g z n s = record {
   irreducible = s.irreducible;
 }
 
-module _ (S : LinearSystem) (listed : List (List ℤ)) (closed : (u : List ℤ) → Contains listed u → Contains listed (negated u)) where
+module _ (S : LinearSystem) (listed : List (List ℤ)) (closed : HasNegatives listed) where
   pub sum_negated : (f g z : List ℤ) → IsSumOf S listed f g z → IsSumOf S listed (negated f) (negated g) (negated z)
   sum_negated f g z s = record {
     sum = record {
@@ -192,10 +193,29 @@ module _ (S : LinearSystem) (listed : List (List ℤ)) (closed : (u : List ℤ) 
         line_negated f levels m (m / 8 - 1) h (omega (arith, o)) (plus_even (m / 8 - 1) (omega (arith, o)) ∙ sym (ap not (plus_odd (m / 8) o))) (omega (arith, l, t.count)) (subst (λ n. n ≤ m % 8) at said)
   ]
 
+-- ---- the laws
+pub sums_of_negatives : NegativesHaveSums
+sums_of_negatives = λ S listed f g z closed. (
+  sum_negated S listed closed f g z,
+  λ s. subst (λ x. IsSumOf S listed f g x) (negated_twice z) (subst₂ (λ a b. IsSumOf S listed a b (negated (negated z))) (negated_twice f) (negated_twice g) (sum_negated S listed closed (negated f) (negated g) (negated z) s)),
+)
+
+none_of_negatives : (S : LinearSystem) (listed : List (List ℤ)) (f g : List ℤ) → HasNegatives listed → MakesNone S listed f g → MakesNone S listed (negated g) (negated f)
+none_of_negatives S listed f g closed h = record {
+  as_first = none_negated S listed closed g f h.as_second;
+  as_second = none_negated S listed closed f g h.as_first;
+}
+
+pub negatives_make_none : NegativesMakeNone
+negatives_make_none = λ S listed f g closed. (
+  none_of_negatives S listed f g closed,
+  λ h. subst₂ (MakesNone S listed) (negated_twice f) (negated_twice g) (none_of_negatives S listed (negated g) (negated f) closed h),
+)
+
 -- ---- the mirror
 -- the negative of a listed row is listed
-pub mirror_closed : (listed : List (List ℤ)) (mirror : List ℕ) → IsWholeMirror listed mirror → (u : List ℤ) → Contains listed u → Contains listed (negated u)
-mirror_closed listed mirror h u c =
+pub mirror_closed : (listed : List (List ℤ)) (mirror : List ℕ) → IsWholeMirror listed mirror → HasNegatives listed
+mirror_closed listed mirror h = λ u c.
     let k : ℕ = c.0 in
     let l : k < length mirror = omega (arith, c.1, h.count) in
     let at : row_at listed k ≡ u = get_or_default listed k [] u c.1 ∙ c.2 in

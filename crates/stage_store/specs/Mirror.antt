@@ -1,8 +1,13 @@
 -- Negatives of rows: where each listed row has its negative listed too, what is known of a row is known of its negative.
 use Rattle.std.specs.Prelude.{◌≡◌, ℕ, ◌+◌, ◌-◌, ◌<◌, ◌≤◌, List, ℤ, cond, length, slice_index_or}
+use Rattle.std.specs.List.{Contains}
 use Rattle.int_vector.specs.Vectors.{negated}
 use Rattle.stage_store.specs.Classes.{row_at}
 use Rattle.stage_store.specs.Levels.{is_plus}
+
+-- the negative of each listed row is listed too
+abbrev pub HasNegatives : List (List ℤ) → Type 0
+HasNegatives listed = (u : List ℤ) → Contains listed u → Contains listed (negated u)
 
 -- the place that the mirror gives for place k
 abbrev pub place_in : List ℕ → ℕ → ℕ
