@@ -20,6 +20,8 @@ use Rattle.stage_store.specs.Signs.{IsSigned}
 use Rattle.stage_store.specs.Lines.{IsSaid}
 use Rattle.stage_store.specs.Levels.{ReachesAt, MakesNone, BarsAt, BarsLine, AreTrue, is_plus}
 use Rattle.stage_store.specs.Mirror.{HasNegatives, IsMirror, IsWholeMirror, IsTurnedTo, AreNegatives, AddsTurned, IsTurnedLevels, place_in, turned_place, turned_item}
+use Rattle.stage_store.specs.Reaches.{entry_against, with_reach, IsReachOr}
+use Rattle.stage_store.proofs.Reaches.{against_above, against_under}
 use Rattle.stage_store.specs.SiftLaws.{NegativesHaveSums, NegativesMakeNone}
 use Rattle.stage_store.specs.Sieve.{HasNoNewSum, HasNoNewSumBy}
 
@@ -236,6 +238,37 @@ none_turned positive S listed mirror i j h il jl n = by_sign positive
     by_sign : (p : Bool) → HasNoNewSumBy p S listed i j → HasNoNewSumBy p S listed (place_in mirror j) (place_in mirror i)
     by_sign true none = crossed i j il jl n none
     by_sign false none = crossed j i jl il (sym n) none
+
+-- a reach of a row is one of its negative, whose last entry is not 0
+reach_negated : (f : List ℤ) (r : ℕ) → (last f ≡ pos 0 → ⊥) → with_reach (negated f) r ≡ negated (with_reach f r)
+reach_negated [] r h = refl
+reach_negated (x ∷ []) r h = ap (λ e. e ∷ []) (against_negated x h)
+  where
+    against_negated : (x : ℤ) → (x ≡ pos 0 → ⊥) → entry_against (neg_ℤ x) r ≡ neg_ℤ (entry_against x r)
+    against_negated x h = elim (cases_Bool (int_lt (pos 0) x)) [
+      | inl t ↦ against_under (neg_ℤ x) r (omega (arith, ints, t)) ∙ sym (twice (pos r)) ∙ sym (ap neg_ℤ (against_above x r (omega (arith, ints, t))))
+      | inr t ↦ against_above (neg_ℤ x) r (by_order x h t) ∙ sym (ap neg_ℤ (against_under x r (under x h t)))
+    ]
+      where
+        under : (x : ℤ) → (x ≡ pos 0 → ⊥) → int_lt (pos 0) x ≡ false → x <ℤ pos 0
+        under x h t = grind (arith, ints)
+
+        by_order : (x : ℤ) → (x ≡ pos 0 → ⊥) → int_lt (pos 0) x ≡ false → pos 0 <ℤ neg_ℤ x
+        by_order x h t = grind (arith, ints)
+reach_negated (x ∷ y ∷ f) r h = ap (λ l. neg_ℤ x ∷ l) (reach_negated (y ∷ f) r h)
+
+pub reach_turned : (listed : List (List ℤ)) (f : List ℤ) (r : ℕ) → HasNegatives listed → (last f ≡ pos 0 → ⊥) → IsReachOr listed f r → IsReachOr listed (negated f) r
+reach_turned listed f r closed some h = λ p.
+    let u = h p in
+    (negated u.0, closed u.0 u.1, subst (λ v. negated u.0 ⊑ v) (sym (reach_negated f r some)) (below_negated u.0 (with_reach f r) u.2))
+
+pub reach_at_mirror : (listed : List (List ℤ)) (mirror : List ℕ) (i r : ℕ) → IsWholeMirror listed mirror → i < length listed → (last (row_at listed i) ≡ pos 0 → ⊥) → IsReachOr listed (row_at listed (place_in mirror i)) r → IsReachOr listed (row_at listed i) r
+reach_at_mirror listed mirror i r h l some known =
+    let m : i < length mirror = omega (arith, l, h.count) in
+    let is : row_at listed (place_in mirror i) ≡ negated (row_at listed i) = h.mirror_is.negative i m in
+    let other : last (row_at listed (place_in mirror i)) ≡ neg_ℤ (last (row_at listed i)) = ap last is ∙ last_negated (row_at listed i) in
+    subst (λ v. IsReachOr listed v r) (ap negated is ∙ negated_twice (row_at listed i))
+    (reach_turned listed (row_at listed (place_in mirror i)) r (mirror_closed listed mirror h) (λ e. some (omega (arith, ints, e, other))) known)
 
 pub norm_at_mirror : (listed : List (List ℤ)) (mirror : List ℕ) (k : ℕ) → IsMirror listed mirror → k < length mirror → stage_norm (row_at listed (place_in mirror k)) ≡ stage_norm (row_at listed k)
 norm_at_mirror listed mirror k h l = ap stage_norm (h.negative k l) ∙ stage_norm_negated (row_at listed k)

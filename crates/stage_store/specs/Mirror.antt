@@ -34,6 +34,13 @@ pub record IsTurnedTo (listed : List (List ℤ)) (n : ℕ) (mirror : List ℕ) :
   pub whole : IsWholeMirror listed mirror
   pub before : (k : ℕ) → k < n → place_in mirror k < n
 
+-- the rows at the second places are the negatives of those at the first, one by one
+pub record AreCouples (mirror plus minus : List ℕ) : Type 0 where
+  pub count : length minus ≡ length plus
+  pub each : (k : ℕ) → k < length plus
+      → (slice_index_or plus k 0 < length mirror)
+      × (place_in mirror (slice_index_or plus k 0) ≡ slice_index_or minus k 0)
+
 -- ---- rows in the other order
 -- the place that place k has when those from `from` up to `to` are taken in the other order
 abbrev pub turned_place : ℕ → ℕ → ℕ → ℕ
