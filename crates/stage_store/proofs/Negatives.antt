@@ -19,7 +19,10 @@ use Rattle.stage_store.specs.Found.{IsSumOf}
 use Rattle.stage_store.specs.Signs.{IsSigned}
 use Rattle.stage_store.specs.Lines.{IsSaid}
 use Rattle.stage_store.specs.Levels.{ReachesAt, MakesNone, BarsAt, BarsLine, AreTrue, is_plus}
-use Rattle.stage_store.specs.Mirror.{IsMirror, IsWholeMirror, IsTurnedTo, AreNegatives, AddsTurned, IsTurnedLevels, place_in, turned_place, turned_item}
+use Rattle.stage_store.specs.Mirror.{HasNegatives, IsMirror, IsWholeMirror, IsTurnedTo, AreNegatives, AddsTurned, IsTurnedLevels, place_in, turned_place, turned_item}
+use Rattle.stage_store.specs.Reaches.{entry_against, with_reach, IsReachOr}
+use Rattle.stage_store.proofs.Reaches.{against_above, against_under}
+use Rattle.stage_store.specs.SiftLaws.{NegativesHaveSums, NegativesMakeNone}
 use Rattle.stage_store.specs.Sieve.{HasNoNewSum, HasNoNewSumBy}
 
 -- ---- single entries
@@ -133,7 +136,7 @@ sum_turned S listed f g z n s = record {
   irreducible = s.irreducible;
 }
 
-module _ (S : LinearSystem) (listed : List (List ℤ)) (closed : (u : List ℤ) → Contains listed u → Contains listed (negated u)) where
+module _ (S : LinearSystem) (listed : List (List ℤ)) (closed : HasNegatives listed) where
   pub sum_negated : (f g z : List ℤ) → IsSumOf S listed f g z → IsSumOf S listed (negated f) (negated g) (negated z)
   sum_negated f g z s = record {
     sum = record {
@@ -192,10 +195,29 @@ module _ (S : LinearSystem) (listed : List (List ℤ)) (closed : (u : List ℤ) 
         line_negated f levels m (m / 8 - 1) h (omega (arith, o)) (plus_even (m / 8 - 1) (omega (arith, o)) ∙ sym (ap not (plus_odd (m / 8) o))) (omega (arith, l, t.count)) (subst (λ n. n ≤ m % 8) at said)
   ]
 
+-- ---- the laws
+pub sums_of_negatives : NegativesHaveSums
+sums_of_negatives = λ S listed f g z closed. (
+  sum_negated S listed closed f g z,
+  λ s. subst (λ x. IsSumOf S listed f g x) (negated_twice z) (subst₂ (λ a b. IsSumOf S listed a b (negated (negated z))) (negated_twice f) (negated_twice g) (sum_negated S listed closed (negated f) (negated g) (negated z) s)),
+)
+
+none_of_negatives : (S : LinearSystem) (listed : List (List ℤ)) (f g : List ℤ) → HasNegatives listed → MakesNone S listed f g → MakesNone S listed (negated g) (negated f)
+none_of_negatives S listed f g closed h = record {
+  as_first = none_negated S listed closed g f h.as_second;
+  as_second = none_negated S listed closed f g h.as_first;
+}
+
+pub negatives_make_none : NegativesMakeNone
+negatives_make_none = λ S listed f g closed. (
+  none_of_negatives S listed f g closed,
+  λ h. subst₂ (MakesNone S listed) (negated_twice f) (negated_twice g) (none_of_negatives S listed (negated g) (negated f) closed h),
+)
+
 -- ---- the mirror
 -- the negative of a listed row is listed
-pub mirror_closed : (listed : List (List ℤ)) (mirror : List ℕ) → IsWholeMirror listed mirror → (u : List ℤ) → Contains listed u → Contains listed (negated u)
-mirror_closed listed mirror h u c =
+pub mirror_closed : (listed : List (List ℤ)) (mirror : List ℕ) → IsWholeMirror listed mirror → HasNegatives listed
+mirror_closed listed mirror h = λ u c.
     let k : ℕ = c.0 in
     let l : k < length mirror = omega (arith, c.1, h.count) in
     let at : row_at listed k ≡ u = get_or_default listed k [] u c.1 ∙ c.2 in
@@ -216,6 +238,37 @@ none_turned positive S listed mirror i j h il jl n = by_sign positive
     by_sign : (p : Bool) → HasNoNewSumBy p S listed i j → HasNoNewSumBy p S listed (place_in mirror j) (place_in mirror i)
     by_sign true none = crossed i j il jl n none
     by_sign false none = crossed j i jl il (sym n) none
+
+-- a reach of a row is one of its negative, whose last entry is not 0
+reach_negated : (f : List ℤ) (r : ℕ) → (last f ≡ pos 0 → ⊥) → with_reach (negated f) r ≡ negated (with_reach f r)
+reach_negated [] r h = refl
+reach_negated (x ∷ []) r h = ap (λ e. e ∷ []) (against_negated x h)
+  where
+    against_negated : (x : ℤ) → (x ≡ pos 0 → ⊥) → entry_against (neg_ℤ x) r ≡ neg_ℤ (entry_against x r)
+    against_negated x h = elim (cases_Bool (int_lt (pos 0) x)) [
+      | inl t ↦ against_under (neg_ℤ x) r (omega (arith, ints, t)) ∙ sym (twice (pos r)) ∙ sym (ap neg_ℤ (against_above x r (omega (arith, ints, t))))
+      | inr t ↦ against_above (neg_ℤ x) r (by_order x h t) ∙ sym (ap neg_ℤ (against_under x r (under x h t)))
+    ]
+      where
+        under : (x : ℤ) → (x ≡ pos 0 → ⊥) → int_lt (pos 0) x ≡ false → x <ℤ pos 0
+        under x h t = grind (arith, ints)
+
+        by_order : (x : ℤ) → (x ≡ pos 0 → ⊥) → int_lt (pos 0) x ≡ false → pos 0 <ℤ neg_ℤ x
+        by_order x h t = grind (arith, ints)
+reach_negated (x ∷ y ∷ f) r h = ap (λ l. neg_ℤ x ∷ l) (reach_negated (y ∷ f) r h)
+
+pub reach_turned : (listed : List (List ℤ)) (f : List ℤ) (r : ℕ) → HasNegatives listed → (last f ≡ pos 0 → ⊥) → IsReachOr listed f r → IsReachOr listed (negated f) r
+reach_turned listed f r closed some h = λ p.
+    let u = h p in
+    (negated u.0, closed u.0 u.1, subst (λ v. negated u.0 ⊑ v) (sym (reach_negated f r some)) (below_negated u.0 (with_reach f r) u.2))
+
+pub reach_at_mirror : (listed : List (List ℤ)) (mirror : List ℕ) (i r : ℕ) → IsWholeMirror listed mirror → i < length listed → (last (row_at listed i) ≡ pos 0 → ⊥) → IsReachOr listed (row_at listed (place_in mirror i)) r → IsReachOr listed (row_at listed i) r
+reach_at_mirror listed mirror i r h l some known =
+    let m : i < length mirror = omega (arith, l, h.count) in
+    let is : row_at listed (place_in mirror i) ≡ negated (row_at listed i) = h.mirror_is.negative i m in
+    let other : last (row_at listed (place_in mirror i)) ≡ neg_ℤ (last (row_at listed i)) = ap last is ∙ last_negated (row_at listed i) in
+    subst (λ v. IsReachOr listed v r) (ap negated is ∙ negated_twice (row_at listed i))
+    (reach_turned listed (row_at listed (place_in mirror i)) r (mirror_closed listed mirror h) (λ e. some (omega (arith, ints, e, other))) known)
 
 pub norm_at_mirror : (listed : List (List ℤ)) (mirror : List ℕ) (k : ℕ) → IsMirror listed mirror → k < length mirror → stage_norm (row_at listed (place_in mirror k)) ≡ stage_norm (row_at listed k)
 norm_at_mirror listed mirror k h l = ap stage_norm (h.negative k l) ∙ stage_norm_negated (row_at listed k)

@@ -1,7 +1,7 @@
 -- The sieve: a pair that is kept stays kept, and a pair that is passed over has no irreducible sum.
 use Rattle.std.proofs.Common.{◌≡◌, ◌⊎◌, ℕ, ◌+◌, ◌-◌, ◌*◌, ◌/◌, ◌%◌, ◌≤◌, ◌<◌, List, [], length, get_or, take, drop, ap, sym, ◌∙◌, subst, arith, inl, inr, refl, Bool, true, false}
 use Rattle.std.proofs.Common.{min, length-drop, get_or-drop, get_or-take, subst₂}
-use Rattle.std.specs.Prelude.{ℤ}
+use Rattle.std.specs.Prelude.{ℤ, IsTrue, IsFalse}
 use Rattle.std.specs.Int.{bit_at}
 use Rattle.std.specs.List.{AllByRecursion}
 use Rattle.std.proofs.lemmas.Bool.{cases_lt, cases_eq}
@@ -16,8 +16,8 @@ use Rattle.stage_store.specs.Classes.{row_at}
 use Rattle.stage_store.specs.declared.sieve.Sieve.{Sieve}
 use Rattle.stage_store.specs.declared.table.Table.{Table}
 use Rattle.stage_store.specs.declared.sieve.KeptPair.{KeptPair}
-use Rattle.stage_store.specs.Sieve.{AreSifted, IsTable, IsBefore, IsTurnedBefore, IsSieveTo, IsSieve, IsNewSieve, AreCoupledTo, HasNewReaches, HasNewMirror, HasNoNewSumBy, IsSiftedBy, AreBothSifted, AreSiftedBy, AreWide, AreReads, AreBetween, IsGroup, IsSized, IsDead, pair_by}
-use Rattle.stage_store.specs.Mirror.{IsMirror, IsWholeMirror, IsWholeOr, IsTurnedTo, place_in}
+use Rattle.stage_store.specs.Sieve.{AreSifted, IsTable, IsBefore, IsTurnedBefore, IsSieveTo, IsSieve, IsNewSieve, AreCoupledTo, HasNewReaches, HasNewMirror, HasNoNewSumBy, IsSiftedBy, AreBothSifted, AreSiftedBefore, AreSiftedBy, IsCoupleSifted, AreWide, AreReads, AreBetween, IsGroup, IsSized, IsDead, pair_by}
+use Rattle.stage_store.specs.Mirror.{IsMirror, IsWholeMirror, IsWholeOr, IsTurnedTo, AreCouples, place_in}
 use Rattle.stage_store.proofs.Negatives.{none_turned, norm_at_mirror, no_mirror, under_negated, above_negated, negated_twice}
 use Rattle.stage_store.specs.Lines.{Tell, AreMarked}
 use Rattle.stage_store.specs.Levels.{BarsLine, ReachesLine}
@@ -109,18 +109,18 @@ group_has_none positive S listed i a bits ids part bar_reads reach_reads g wide 
 
 -- ---- norms of which pairs are not kept
 -- a group that is passed over
-pub group_out : (positive : Bool) (S : LinearSystem) (listed : List (List ℤ)) (mirror : List ℕ) (v : Shelves) (i group least most norm : ℕ) (ids : List ℕ) → IsWholeOr listed mirror → i < length listed → AllByRecursion (λ j. j < length listed) ids
-    → AreBetween listed ids group least most → norm ≡ stage_norm (row_at listed i) → (norm + most ≤ v.closed) ⊎ (v.horizon ≤ norm + least) → ((k : ℕ) → k < 64 * group → k < length ids → AreBothSifted positive S listed v mirror i (get_or ids k 0))
-    → (k : ℕ) → k < 64 * (group + 1) → k < length ids → AreBothSifted positive S listed v mirror i (get_or ids k 0)
-group_out positive S listed mirror v i group least most norm ids whole il within norms is out before k l inside = elim (cases_lt k (64 * group)) [
+pub group_out : (positive : Bool) (S : LinearSystem) (listed : List (List ℤ)) (mirror : List ℕ) (v : Shelves) (i group least most norm end : ℕ) (ids : List ℕ) → end ≤ length ids → IsWholeOr listed mirror → i < length listed → AllByRecursion (λ j. j < length listed) ids
+    → AreBetween listed ids group least most → norm ≡ stage_norm (row_at listed i) → (norm + most ≤ v.closed) ⊎ (v.horizon ≤ norm + least) → ((k : ℕ) → k < 64 * group → k < end → AreBothSifted positive S listed v mirror i (get_or ids k 0))
+    → (k : ℕ) → k < 64 * (group + 1) → k < end → AreBothSifted positive S listed v mirror i (get_or ids k 0)
+group_out positive S listed mirror v i group least most norm end ids few whole il within norms is out before k l inside = elim (cases_lt k (64 * group)) [
   | inl s ↦ before k s inside
   | inr s ↦
       let at : 64 * group + (k - 64 * group) ≡ k = omega (arith, s) in
       let t : (least ≤ stage_norm (row_at listed (get_or ids k 0))) × (stage_norm (row_at listed (get_or ids k 0)) ≤ most) =
-      subst (λ n. (least ≤ stage_norm (row_at listed (get_or ids n 0))) × (stage_norm (row_at listed (get_or ids n 0)) ≤ most)) at (norms (k - 64 * group) (omega (arith, l, s)) (omega (arith, inside, s))) in
+      subst (λ n. (least ≤ stage_norm (row_at listed (get_or ids n 0))) × (stage_norm (row_at listed (get_or ids n 0)) ≤ most)) at (norms (k - 64 * group) (omega (arith, l, s)) (omega (arith, inside, few, s))) in
       let beyond : (stage_norm (row_at listed i) + stage_norm (row_at listed (get_or ids k 0)) ≤ v.closed) ⊎ (v.horizon ≤ stage_norm (row_at listed i) + stage_norm (row_at listed (get_or ids k 0))) =
       elim out [ inl o ↦ inl (omega (arith, o, t.1, is)) | inr o ↦ inr (omega (arith, o, t.0, is)) ] in
-      both_out positive S listed mirror v i (get_or ids k 0) whole il (each_at (λ j. j < length listed) ids k 0 within inside) beyond
+      both_out positive S listed mirror v i (get_or ids k 0) whole il (each_at (λ j. j < length listed) ids k 0 within (omega (arith, inside, few))) beyond
 ]
 
 -- ---- the rows of two tables, sifted anew
@@ -130,6 +130,44 @@ sifted_anew S listed n plus minus v within p m all = λ i j il jl above under.
     let a = p.whole i (omega (arith, il, within)) (il, above) in
     let b = m.whole j (omega (arith, jl, within)) (jl, under) in
     subst₂ (λ (x y : ℕ). IsSiftedBy true S listed v x y) a.2 b.2 (all a.0 a.1 b.0 b.1).0
+
+-- the same where the rows of one table are the negatives of those of the other, and one of two pairs is sifted
+module _ (S : LinearSystem) (listed : List (List ℤ)) (old new : Shelves) (mirror plus minus : List ℕ) (a : ℕ) where
+  pub couple_stays : Stay old new → IsCoupleSifted S listed old mirror plus minus a → IsCoupleSifted S listed new mirror plus minus a
+  couple_stays stay h = record {
+    before = λ b l. both_stay true S listed mirror old new (get_or plus a 0) (get_or minus b 0) stay (h.before b l);
+    own = sifted_stays true S listed old new (get_or plus a 0) (get_or minus a 0) stay h.own;
+  }
+
+  pub on_ok_couple_sifted : {E : Type 0} (x y : ℕ) (r : Result (Unit {0}) E) → Stay old new → x ≡ get_or plus a 0 → y ≡ get_or minus a 0 → AreSiftedBefore true S listed old mirror (get_or plus a 0) a minus
+      → OnOk r (IsKept new (pair_by true (stage_norm (row_at listed x) + stage_norm (row_at listed y)) x y)) → OnOk r (IsCoupleSifted S listed new mirror plus minus a)
+  on_ok_couple_sifted x y (Ok u) stay e f before kept = record {
+    before = λ b l. both_stay true S listed mirror old new (get_or plus a 0) (get_or minus b 0) stay (before b l);
+    own = inl (subst₂ (λ (i j : ℕ). IsKept new (pair_by true (stage_norm (row_at listed i) + stage_norm (row_at listed j)) i j)) e f kept);
+  }
+  on_ok_couple_sifted x y (Err e) stay f g before kept = tt
+
+pub couples_sifted : (S : LinearSystem) (listed : List (List ℤ)) (n : ℕ) (plus minus : Table) (v : Shelves) (mirror : List ℕ) → n ≤ length listed → IsWholeOr listed mirror → AreCouples mirror plus.ids.items minus.ids.items
+    → IsTable S listed (IsBefore listed has_positive_last n) n plus → IsTable S listed (IsBefore listed has_negative_last n) n minus
+    → ((k : ℕ) → k < length plus.ids.items → IsCoupleSifted S listed v mirror plus.ids.items minus.ids.items k) → AreSifted S listed n v
+couples_sifted S listed n plus minus v mirror within whole couples p m all = λ i j il jl above under.
+    let a = p.whole i (omega (arith, il, within)) (il, above) in
+    let b = m.whole j (omega (arith, jl, within)) (jl, under) in
+    subst₂ (λ (x y : ℕ). IsSiftedBy true S listed v x y) a.2 b.2 (at a.0 b.0 a.1 (omega (arith, b.1, couples.count)))
+  where
+    at : (a b : ℕ) → a < length plus.ids.items → b < length plus.ids.items → IsSiftedBy true S listed v (get_or plus.ids.items a 0) (get_or minus.ids.items b 0)
+    at a b al bl = elim (cases_lt b a) [
+      | inl l ↦ ((all a al).before b l).0
+      | inr s ↦ elim (cases_eq a b) [
+        | inl e ↦ subst (λ (k : ℕ). IsSiftedBy true S listed v (get_or plus.ids.items a 0) (get_or minus.ids.items k 0)) e (all a al).own
+        | inr d ↦
+            let x = couples.each a al in
+            let y = couples.each b bl in
+            let h : IsMirror listed mirror = (whole (omega (arith, x.0))).mirror_is in
+            let turned = ((all b bl).before a (omega (arith, s, d))).1 y.0 (omega (arith, x.1, h.inside (get_or plus.ids.items a 0) x.0)) in
+            subst₂ (λ (i j : ℕ). IsSiftedBy true S listed v i j) (ap (place_in mirror) (sym x.1) ∙ h.back (get_or plus.ids.items a 0) x.0) y.1 turned
+      ]
+    ]
 
 -- what a table tells of the row at a place
 pub marked_reads : (P : List ℤ → ℕ → Type 0) (listed : List (List ℤ)) (ids lines places : List ℕ) (k : ℕ) → Tell P listed ids (k / 64) lines → AreMarked lines (k % 64) places → AreReads (P (row_at listed (get_or ids k 0))) (length lines) places
@@ -142,15 +180,15 @@ marked_reads P listed ids lines places k tell marked = λ a l.
 pub part_at : (n m k : ℕ) (ids : List ℕ) → k < n → get_or (take n (drop m ids)) k 0 ≡ get_or ids (m + k) 0
 part_at n m k ids l = get_or-take n (drop m ids) k 0 l ∙ get_or-drop m ids k 0
 
-pub group_more : (positive : Bool) (S : LinearSystem) (listed : List (List ℤ)) (mirror : List ℕ) (old new : Shelves) (i group to : ℕ) (ids : List ℕ) → Stay old new → to ≡ min (length ids) (64 * group + 64)
-    → ((k : ℕ) → k < 64 * group → k < length ids → AreBothSifted positive S listed old mirror i (get_or ids k 0)) → AreSiftedBy positive S listed new mirror i (take (to - 64 * group) (drop (64 * group) ids))
-    → (k : ℕ) → k < 64 * (group + 1) → k < length ids → AreBothSifted positive S listed new mirror i (get_or ids k 0)
-group_more positive S listed mirror old new i group to ids stay e before here k l inside = elim (cases_lt k (64 * group)) [
+pub group_more : (positive : Bool) (S : LinearSystem) (listed : List (List ℤ)) (mirror : List ℕ) (old new : Shelves) (i group end to : ℕ) (ids : List ℕ) → Stay old new → end ≤ length ids → to ≡ min end (64 * group + 64)
+    → ((k : ℕ) → k < 64 * group → k < end → AreBothSifted positive S listed old mirror i (get_or ids k 0)) → AreSiftedBy positive S listed new mirror i (take (to - 64 * group) (drop (64 * group) ids))
+    → (k : ℕ) → k < 64 * (group + 1) → k < end → AreBothSifted positive S listed new mirror i (get_or ids k 0)
+group_more positive S listed mirror old new i group end to ids stay few e before here k l inside = elim (cases_lt k (64 * group)) [
   | inl s ↦ both_stay positive S listed mirror old new i (get_or ids k 0) stay (before k s inside)
   | inr s ↦
       let m : ℕ = k - 64 * group in
       let less : k - 64 * group < to - 64 * group = omega (arith, e, l, inside, s) in
-      let len : length (take (to - 64 * group) (drop (64 * group) ids)) ≡ to - 64 * group = length-take-le (to - 64 * group) (drop (64 * group) ids) (omega (arith, length-drop (64 * group) ids, e)) in
+      let len : length (take (to - 64 * group) (drop (64 * group) ids)) ≡ to - 64 * group = length-take-le (to - 64 * group) (drop (64 * group) ids) (omega (arith, length-drop (64 * group) ids, e, few)) in
       let at : get_or (take (to - 64 * group) (drop (64 * group) ids)) (k - 64 * group) 0 ≡ get_or ids k 0 = part_at (to - 64 * group) (64 * group) (k - 64 * group) ids less ∙ ap (λ n. get_or ids n 0) (omega (arith, s)) in
       subst (λ j. AreBothSifted positive S listed new mirror i j) at (here (k - 64 * group) (omega (arith, len, less)))
 ]
@@ -386,6 +424,23 @@ sieve_as S listed d old mid new r m reaches mirror h =
       mirror_is = mirror;
       sifted = subst₂ (λ (n : ℕ) (v : Shelves). AreSifted S listed n v) (sym rows) (sym shelves) h.sifted;
     }
+
+-- a mirror of all rows, or none
+module _ (listed : List (List ℤ)) (n : ℕ) (mirror : List ℕ) where
+  pub known_mirror : (known : Bool) → (IsTrue known → IsTurnedTo listed n mirror) → (IsFalse known → mirror ≡ []) → IsMirror listed mirror
+  known_mirror true turned none = (turned refl).whole.mirror_is
+  known_mirror false turned none = no_mirror listed mirror (none refl)
+
+  pub known_whole : (known : Bool) → (IsTrue known → IsTurnedTo listed n mirror) → (IsFalse known → mirror ≡ []) → IsWholeOr listed mirror
+  known_whole true turned none = λ l. (turned refl).whole
+  known_whole false turned none = λ l. absurd (omega (arith, l, ap length (none refl)))
+
+pub sieve_mirrored : (S : LinearSystem) (listed : List (List ℤ)) (d : ℕ) (old new : Sieve) → HasNewMirror old new → IsMirror listed new.mirror.items → IsSieve S listed d old → IsSieve S listed d new
+sieve_mirrored S listed d old new m mirror h = record {
+  within = omega (arith, m.0, h.within);
+  reach_count = omega (arith, m.0, ap (λ r. length r.items) m.1, h.reach_count);
+  upto = sieve_as S listed d old old new (refl, refl, refl, refl, refl) m h.upto.reaches_are mirror h.upto;
+}
 
 -- the same rows, and other shelves on which their pairs are
 pub same_rows : (S : LinearSystem) (listed : List (List ℤ)) (d : ℕ) (old v : Sieve) → v.rows ≡ old.rows → v.reaches ≡ old.reaches → v.mirror ≡ old.mirror → v.plus ≡ old.plus → v.minus ≡ old.minus

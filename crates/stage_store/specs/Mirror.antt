@@ -1,8 +1,13 @@
 -- Negatives of rows: where each listed row has its negative listed too, what is known of a row is known of its negative.
 use Rattle.std.specs.Prelude.{◌≡◌, ℕ, ◌+◌, ◌-◌, ◌<◌, ◌≤◌, List, ℤ, cond, length, slice_index_or}
+use Rattle.std.specs.List.{Contains}
 use Rattle.int_vector.specs.Vectors.{negated}
 use Rattle.stage_store.specs.Classes.{row_at}
 use Rattle.stage_store.specs.Levels.{is_plus}
+
+-- the negative of each listed row is listed too
+abbrev pub HasNegatives : List (List ℤ) → Type 0
+HasNegatives listed = (u : List ℤ) → Contains listed u → Contains listed (negated u)
 
 -- the place that the mirror gives for place k
 abbrev pub place_in : List ℕ → ℕ → ℕ
@@ -28,6 +33,13 @@ IsWholeOr listed mirror = 0 < length mirror → IsWholeMirror listed mirror
 pub record IsTurnedTo (listed : List (List ℤ)) (n : ℕ) (mirror : List ℕ) : Type 0 where
   pub whole : IsWholeMirror listed mirror
   pub before : (k : ℕ) → k < n → place_in mirror k < n
+
+-- the rows at the second places are the negatives of those at the first, one by one
+pub record AreCouples (mirror plus minus : List ℕ) : Type 0 where
+  pub count : length minus ≡ length plus
+  pub each : (k : ℕ) → k < length plus
+      → (slice_index_or plus k 0 < length mirror)
+      × (place_in mirror (slice_index_or plus k 0) ≡ slice_index_or minus k 0)
 
 -- ---- rows in the other order
 -- the place that place k has when those from `from` up to `to` are taken in the other order

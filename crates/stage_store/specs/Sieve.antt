@@ -47,9 +47,23 @@ AreBothSifted positive S listed shelves mirror i j =
     × (i < length mirror → j < length mirror
     → IsSiftedBy positive S listed shelves (place_in mirror j) (place_in mirror i))
 
-abbrev pub AreSiftedBy : Bool → LinearSystem → List (List ℤ) → Shelves → List ℕ → ℕ → List ℕ → Type 0
+-- and so are the pairs of row i with the first n of the rows at places
+abbrev pub AreSiftedBefore :
+    Bool → LinearSystem → List (List ℤ) → Shelves → List ℕ → ℕ → ℕ → List ℕ → Type 0
+AreSiftedBefore positive S listed shelves mirror i n js =
+    (k : ℕ) → k < n
+    → AreBothSifted positive S listed shelves mirror i (slice_index_or js k 0)
+
+abbrev pub AreSiftedBy :
+    Bool → LinearSystem → List (List ℤ) → Shelves → List ℕ → ℕ → List ℕ → Type 0
 AreSiftedBy positive S listed shelves mirror i js =
-    (k : ℕ) → k < length js → AreBothSifted positive S listed shelves mirror i (slice_index_or js k 0)
+    AreSiftedBefore positive S listed shelves mirror i (length js) js
+
+-- so are those of row a of one table with the first a rows of the other, and with its own negative, which is row a there
+pub record IsCoupleSifted (S : LinearSystem) (listed : List (List ℤ)) (shelves : Shelves)
+    (mirror plus minus : List ℕ) (a : ℕ) : Type 0 where
+  pub before : AreSiftedBefore true S listed shelves mirror (slice_index_or plus a 0) a minus
+  pub own : IsSiftedBy true S listed shelves (slice_index_or plus a 0) (slice_index_or minus a 0)
 
 -- the norms are in range
 abbrev pub AreNormed : List (List ℤ) → Type 0

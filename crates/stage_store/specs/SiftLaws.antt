@@ -1,10 +1,13 @@
 -- The laws of the sift: rows that make no irreducible sum, over the definitions alone.
-use Rattle.std.specs.Prelude.{ℕ, ◌+◌, ◌<◌, ◌≤◌, Bool, List, ℤ, pos, nat_abs, length, slice_index_or, None}
+use Rattle.std.specs.Prelude.{◌↔◌, ℕ, ◌+◌, ◌<◌, ◌≤◌, Bool, List, ℤ, pos, nat_abs, length, slice_index_or, None}
 use Rattle.std.specs.List.{Contains}
+use Rattle.int_vector.specs.Vectors.{negated}
 use Rattle.lift_core.specs.Systems.{LinearSystem}
 use Rattle.lift_core.specs.Stages.{last}
 use Rattle.lift_core.specs.Halves.{IsReducible}
 use Rattle.stage_store.specs.Levels.{MakesNone, BarsAt, IsAgainst, IsFull, IsNear, IsOnSide}
+use Rattle.stage_store.specs.Found.{IsSumOf}
+use Rattle.stage_store.specs.Mirror.{HasNegatives}
 use Rattle.stage_store.specs.Reaches.{with_reach}
 use Rattle.stage_store.specs.Signs.{IsSigned}
 
@@ -51,3 +54,16 @@ NoneStays =
     (S : LinearSystem) (listed more : List (List ℤ)) (f g : List ℤ)
     → ((u : List ℤ) → Contains listed u → Contains more u)
     → MakesNone S listed f g → MakesNone S more f g
+
+-- ---- negatives
+-- the irreducible sums of the negatives of two rows are the negatives of those of the rows
+abbrev pub NegativesHaveSums : Type 0
+NegativesHaveSums =
+    (S : LinearSystem) (listed : List (List ℤ)) (f g z : List ℤ) → HasNegatives listed
+    → IsSumOf S listed f g z ↔ IsSumOf S listed (negated f) (negated g) (negated z)
+
+-- f and g make none exactly where -g and -f make none
+abbrev pub NegativesMakeNone : Type 0
+NegativesMakeNone =
+    (S : LinearSystem) (listed : List (List ℤ)) (f g : List ℤ) → HasNegatives listed
+    → MakesNone S listed f g ↔ MakesNone S listed (negated g) (negated f)

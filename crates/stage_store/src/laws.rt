@@ -2,6 +2,7 @@
 
 ghost use Rattle.stage_store.specs.Laws.{PairsAreNumbered, PairsStandOnce};
 ghost use Rattle.stage_store.specs.SiftLaws.{CapMakesNone, ClashMakesNone, FarMakesNone, NearBars, NoneStays};
+ghost use Rattle.stage_store.specs.SiftLaws.{NegativesHaveSums, NegativesMakeNone};
 
 /// Each pair of a norm has exactly one number.
 pub fn number_law()
@@ -20,4 +21,13 @@ pub fn sift_laws()
     ensures near { NearBars }
     ensures reach { FarMakesNone }
     ensures stable { NoneStays }
+{}
+
+/// Where the negative of each listed row is listed, a row and its negative are sifted together.
+///
+/// What is an irreducible sum of two rows is, with the other sign, one of their negatives. So f and g make none exactly
+/// where -g and -f make none.
+pub fn mirror_law()
+    ensures sums { NegativesHaveSums }
+    ensures none { NegativesMakeNone }
 {}

@@ -1,6 +1,7 @@
 //! One stage of the lifting: its rows in order of norm, the classes that its pairs are found by, and the rows that wait.
 #![tactic(auto)]
 
+mod anew;
 mod class;
 mod counting;
 mod growing;

@@ -3,7 +3,8 @@
 
 ghost use Rattle.std.specs.Prelude.{◌≡◌, ◌+◌, ◌%◌, ◌<◌, ◌≤◌, ◌^◌, length, IsTrue, OnOk, neg_ℤ};
 ghost use Rattle.int_vector.specs.Vectors.{negated};
-ghost use Rattle.stage_store.specs.Mirror.{AreNegatives, AddsTurned, IsTurnedLevels, turned_item, turned_place};
+ghost use Rattle.stage_store.specs.Mirror.{AreNegatives, AreCouples, AddsTurned, IsTurnedLevels, place_in};
+ghost use Rattle.stage_store.specs.Mirror.{turned_item, turned_place};
 
 use row_pool::{Pool, RowId};
 use std::alloc::AllocError;
@@ -67,6 +68,31 @@ pub fn add_turned(mirror: &mut Vec<u32>, from: u32, to: u32) -> Result<(), Alloc
         mirror.push(place_turned(from, to, k))?;
     }
     Ok(())
+}
+
+/// Whether the mirror gives a place for another.
+fn is_mirrored(mirror: &[u32], i: u32, j: u32) -> bool
+    ensures { IsTrue result → (i < length mirror.now) × (place_in mirror.now i ≡ j) }
+{
+    match mirror.get(i as usize) {
+        Some(place) => *place == j,
+        None => false,
+    }
+}
+
+/// Whether the mirror gives places for others, one by one.
+pub fn are_couples(mirror: &[u32], plus: &[u32], minus: &[u32]) -> bool
+    ensures { IsTrue result → AreCouples mirror.now plus.now minus.now }
+{
+    if plus.len() != minus.len() {
+        return false;
+    }
+    for k in 0..plus.len() {
+        if !is_mirrored(mirror, plus[k], minus[k]) {
+            return false;
+        }
+    }
+    true
 }
 
 /// The item of the same column and the other sign, of so many items.

@@ -11,6 +11,7 @@ ghost use Rattle.stage_store.specs.Indexed.{HoldsRows};
 ghost use Rattle.std.specs.List.{Contains};
 ghost use Rattle.lift_core.specs.Systems.{LinearSystem};
 ghost use Rattle.int_vector.specs.Range.{InRange};
+ghost use Rattle.stage_store.specs.Mirror.{IsWholeOr};
 ghost use Rattle.stage_store.specs.Reaches.{entry_against, with_reach, AreFarApart, AreReaches, IsReachOr};
 ghost use Rattle.stage_store.specs.Sieve.{HasNoNewSum, HasNoNewSumBy};
 
@@ -137,6 +138,52 @@ pub fn reach_at(listed: &Pool, tree: &Tree, i: u32, probe: &mut [i64]) -> u64
         return 0;
     }
     reach_of(listed, tree, row, probe)
+}
+
+/// The known reach of a listed row's negative, and 0 where none is known or the row's last entry is 0.
+fn reach_turned(listed: &Pool, reaches: &[u64], mirror: &[u32], i: u32) -> u64
+    requires some { 0 < listed.now.width }
+    requires row { i < length listed.now.rows }
+    requires reaches { AreReaches listed.now.rows reaches.now }
+    requires mirror { IsWholeOr listed.now.rows mirror.now }
+    ensures reach { IsReachOr listed.now.rows (row_at listed.now.rows i) result }
+{
+    let row = listed.row(RowId(i));
+    if row[row.len() - 1] == 0 || i as usize >= mirror.len() {
+        return 0;
+    }
+    let other = mirror[i as usize] as usize;
+    if other < reaches.len() {
+        reaches[other]
+    } else {
+        0
+    }
+}
+
+/// A reach of a listed row: that of its negative where it is known, since the negatives of rows below a row are below its
+/// negative.
+pub fn reach_or(
+    listed: &Pool,
+    tree: &Tree,
+    reaches: &[u64],
+    mirror: &[u32],
+    i: u32,
+    probe: &mut [i64],
+) -> u64
+    requires indexed { HoldsRows tree.now listed.now }
+    requires some { 0 < listed.now.width }
+    requires row { i < length listed.now.rows }
+    requires probe { length probe.old ≡ listed.now.width }
+    requires reaches { AreReaches listed.now.rows reaches.now }
+    requires mirror { IsWholeOr listed.now.rows mirror.now }
+    ensures probe { length probe.new ≡ length probe.old }
+    ensures reach { IsReachOr listed.now.rows (row_at listed.now.rows i) result }
+{
+    let turned = reach_turned(listed, reaches, mirror, i);
+    if turned > 0 {
+        return turned;
+    }
+    reach_at(listed, tree, i, probe)
 }
 
 /// Whether a value is larger than another by a reach or more. A reach of 0 tells nothing.

@@ -16,11 +16,13 @@ ghost use Rattle.stage_store.specs.Levels.{AreTrue, BarsLine, ReachesLine};
 ghost use Rattle.stage_store.specs.Reaches.{AreReaches};
 ghost use Rattle.stage_store.specs.Shelves.{IsKept, Stay};
 ghost use Rattle.stage_store.specs.Mirror.{IsMirror, IsWholeOr, IsTurnedTo, place_in};
+ghost use Rattle.stage_store.specs.Sieve.{AreSiftedBefore};
 ghost use Rattle.stage_store.specs.Sieve.{HasNoNewSumBy, AreSiftedBy, AreSifted, AreGroups, IsSized, AreSized, IsDead, IsTable, IsBefore, IsSieveTo, IsSieve, IsNewSieve, IsRoom, AreReads, AreNormed, AreWide, AreCoupledTo, HasNewReaches, HasNewMirror, pair_by};
 
+use crate::anew::sift_anew;
 use crate::growing::{has_sign, norm_of};
 use crate::mirror::{add_turned, are_turned};
-use crate::reach::{is_passed, reach_at};
+use crate::reach::{is_passed, reach_or};
 use crate::room::Room;
 use crate::shelves::Shelves;
 use crate::table::Table;
@@ -72,7 +74,7 @@ fn pair_of(positive: bool, norm: u64, i: u32, j: u32) -> KeptPair
 }
 
 /// Keeps the pair of two rows, and that of their negatives where the mirror has these.
-fn keep_rows(
+pub fn keep_rows(
     shelves: &mut Shelves,
     listed: &Pool,
     width: usize,
@@ -150,8 +152,61 @@ fn sift_group(
     Ok(())
 }
 
-/// Sifts the pairs of a row with the rows of the other sign that a table has, of which those of the kept norms alone are
-/// looked at. The lines that are read for the row are at these places.
+/// Sifts the pairs of a row with the first rows of the other sign that a table has, of which those of the kept norms alone
+/// are looked at. The lines that are read for the row are at these places.
+pub fn sift_first(
+    shelves: &mut Shelves,
+    system: &System,
+    listed: &Pool,
+    reaches: &[u64],
+    mirror: &[u32],
+    positive: bool,
+    i: u32,
+    table: &Table,
+    end: usize,
+    bar_reads: &[usize],
+    reach_reads: &[usize],
+) -> Result<(), AllocError>
+    requires count { length shelves.old.shelves.items ≡ 256 }
+    requires reaches { AreReaches listed.now.rows reaches.now }
+    requires reach_count { length reaches.now ≤ length listed.now.rows }
+    requires width { listed.now.width ≡ width system.now.equations + 1 }
+    requires norms { AreNormed listed.now.rows }
+    requires wide { AreWide (width system.now.equations + 1) listed.now.rows }
+    requires mirror { IsWholeOr listed.now.rows mirror.now }
+    requires row { i < length reaches.now }
+    requires places { AllByRecursion (λ j. j < length reaches.now) table.now.ids.items }
+    requires end { end ≤ length table.now.ids.items }
+    requires few { length table.now.ids.items ≤ 2 ^ 21 }
+    requires groups { length table.now.groups.items ≡ (length table.now.ids.items + 63) / 64 }
+    requires sized { AreSized (16 * width system.now.equations) table.now.groups.items }
+    requires tell { AreGroups system.now.equations listed.now.rows table.now.ids.items table.now.groups.items }
+    requires bar_reads { AreReads (ReachesLine (row_at listed.now.rows i)) (16 * width system.now.equations) bar_reads.now }
+    requires reach_reads { AreReads (BarsLine system.now.equations listed.now.rows (row_at listed.now.rows i)) (16 * width system.now.equations) reach_reads.now }
+    ensures count { length shelves.new.shelves.items ≡ 256 }
+    ensures stay { Stay shelves.old shelves.new }
+    ensures sifted { OnOk result (AreSiftedBefore
+        positive system.now.equations listed.now.rows shelves.new mirror.now i end table.now.ids.items) }
+{
+    let norm = norm_of(listed.row(RowId(i)), system.width() as usize);
+    let groups = (end + 63) / 64;
+    for group in 0..groups {
+        let lines = &table.groups[group];
+        if shelves.leaves_out(norm, lines.least, lines.most) {
+            continue;
+        }
+        let from = 64 * group;
+        let to = end.min(from + 64);
+        let dead = lines.dead(bar_reads, reach_reads);
+        let others = &table.ids[from..to];
+        sift_group(
+            shelves, system, listed, reaches, mirror, positive, i, others, dead,
+        )?;
+    }
+    Ok(())
+}
+
+/// The same for all rows of the table.
 fn sift_row(
     shelves: &mut Shelves,
     system: &System,
@@ -184,106 +239,19 @@ fn sift_row(
     ensures sifted { OnOk result
         (AreSiftedBy positive system.now.equations listed.now.rows shelves.new mirror.now i table.now.ids.items) }
 {
-    let norm = norm_of(listed.row(RowId(i)), system.width() as usize);
-    for group in 0..table.groups.len() {
-        let lines = &table.groups[group];
-        if shelves.leaves_out(norm, lines.least, lines.most) {
-            continue;
-        }
-        let from = 64 * group;
-        let to = table.ids.len().min(from + 64);
-        let dead = lines.dead(bar_reads, reach_reads);
-        let others = &table.ids[from..to];
-        sift_group(
-            shelves, system, listed, reaches, mirror, positive, i, others, dead,
-        )?;
-    }
-    Ok(())
-}
-
-/// Sifts the pairs of the row at a place of one table with the rows of the other anew, by what the tables tell.
-fn sift_row_anew(
-    shelves: &mut Shelves,
-    system: &System,
-    listed: &Pool,
-    reaches: &[u64],
-    plus: &Table,
-    minus: &Table,
-    k: usize,
-    bar_reads: &mut Vec<usize>,
-    reach_reads: &mut Vec<usize>,
-) -> Result<(), AllocError>
-    requires count { length shelves.old.shelves.items ≡ 256 }
-    requires reaches { AreReaches listed.now.rows reaches.now }
-    requires reach_count { length reaches.now ≤ length listed.now.rows }
-    requires width { listed.now.width ≡ width system.now.equations + 1 }
-    requires norms { AreNormed listed.now.rows }
-    requires wide { AreWide (width system.now.equations + 1) listed.now.rows }
-    requires few { length listed.now.rows ≤ 2 ^ 21 }
-    requires plus { IsTable system.now.equations listed.now.rows (IsBefore listed.now.rows has_positive_last (length reaches.now)) (length reaches.now) plus.now }
-    requires minus { IsTable system.now.equations listed.now.rows (IsBefore listed.now.rows has_negative_last (length reaches.now)) (length reaches.now) minus.now }
-    requires place { k < length plus.now.ids.items }
-    ensures count { length shelves.new.shelves.items ≡ 256 }
-    ensures stay { Stay shelves.old shelves.new }
-    ensures sifted { OnOk result
-        (AreSiftedBy true system.now.equations listed.now.rows shelves.new [] (slice_index_or plus.now.ids.items k 0) minus.now.ids.items) }
-{
-    let group = &plus.groups[k / 64];
-    group.reached.take_marked(false, k % 64, bar_reads)?;
-    group.bars.take_marked(true, k % 64, reach_reads)?;
-    sift_row(
+    sift_first(
         shelves,
         system,
         listed,
         reaches,
-        &[],
-        true,
-        plus.ids[k],
-        minus,
+        mirror,
+        positive,
+        i,
+        table,
+        table.ids.len(),
         bar_reads,
         reach_reads,
     )
-}
-
-/// Sifts the pairs of the rows of two tables anew, by what the tables tell.
-fn sift_tables(
-    alloc: Global,
-    shelves: &mut Shelves,
-    system: &System,
-    listed: &Pool,
-    reaches: &[u64],
-    plus: &Table,
-    minus: &Table,
-) -> Result<(), AllocError>
-    requires count { length shelves.old.shelves.items ≡ 256 }
-    requires reaches { AreReaches listed.now.rows reaches.now }
-    requires reach_count { length reaches.now ≤ length listed.now.rows }
-    requires width { listed.now.width ≡ width system.now.equations + 1 }
-    requires norms { AreNormed listed.now.rows }
-    requires wide { AreWide (width system.now.equations + 1) listed.now.rows }
-    requires few { length listed.now.rows ≤ 2 ^ 21 }
-    requires plus { IsTable system.now.equations listed.now.rows (IsBefore listed.now.rows has_positive_last (length reaches.now)) (length reaches.now) plus.now }
-    requires minus { IsTable system.now.equations listed.now.rows (IsBefore listed.now.rows has_negative_last (length reaches.now)) (length reaches.now) minus.now }
-    ensures count { length shelves.new.shelves.items ≡ 256 }
-    ensures stay { Stay shelves.old shelves.new }
-    ensures sifted { OnOk result (AreSifted system.now.equations listed.now.rows (length reaches.now) shelves.new) }
-{
-    let mut bar_reads = Vec::new(alloc);
-    let mut reach_reads = Vec::new(alloc);
-    for k in 0..plus.ids.len() {
-        sift_row_anew(
-            shelves,
-            system,
-            listed,
-            reaches,
-            plus,
-            minus,
-            k,
-            &mut bar_reads,
-            &mut reach_reads,
-        )?;
-    }
-    Ok(())
 }
 
 impl Sieve {
@@ -328,19 +296,22 @@ impl Sieve {
         requires norms { AreNormed listed.now.rows }
         requires wide { AreWide (width system.now.equations + 1) listed.now.rows }
         requires held { IsSieve system.now.equations listed.now.rows norm self.old }
+        requires mirror { IsWholeOr listed.now.rows self.old.mirror.items }
         ensures shelves { length self.new.shelves.shelves.items ≡ 256 }
+        ensures same { (self.new.rows ≡ self.old.rows) × (self.new.mirror ≡ self.old.mirror) }
         ensures held { OnOk result (IsSieve system.now.equations listed.now.rows norm self.new) }
     {
         if next < self.shelves.horizon() {
             return Ok(());
         }
         self.shelves.reopen(alloc, norm, next);
-        sift_tables(
+        sift_anew(
             alloc,
             &mut self.shelves,
             system,
             listed,
             &self.reaches,
+            &self.mirror,
             &self.plus,
             &self.minus,
         )
@@ -368,13 +339,14 @@ impl Sieve {
         ensures reach_count { OnOk result (length self.new.reaches.items ≡ length listed.now.rows) }
         ensures upto { OnOk result (IsSieveTo system.now.equations listed.now.rows norm (length listed.now.rows) self.new) }
     {
+        let known = self.turn_rows(alloc, listed)?;
         self.renew(alloc, system, listed, norm, next)?;
         self.shelves.close(norm, listed.len());
         // Most norms list no row.
         if self.rows == listed.len() {
             return Ok(());
         }
-        self.sift_rows(alloc, system, listed, tree, norm)
+        self.sift_rows(alloc, system, listed, tree, norm, known)
     }
 
     /// Sifts the pairs of the rows that were listed since, before the next norm is opened. After an error nothing counts as
@@ -424,7 +396,7 @@ impl Sieve {
         self.shelves.at(norm)
     }
 
-    /// Sifts the pairs of the rows that were listed since.
+    /// Sifts the pairs of the rows that were listed since, whose negatives are known or not.
     fn sift_rows(
         &mut self,
         alloc: Global,
@@ -432,6 +404,7 @@ impl Sieve {
         listed: &Pool,
         tree: &Tree,
         norm: u64,
+        known: bool,
     ) -> Result<(), AllocError>
         requires indexed { HoldsRows tree.now listed.now }
         requires width { listed.now.width ≡ width system.now.equations + 1 }
@@ -441,6 +414,8 @@ impl Sieve {
         requires wide { AreWide (width system.now.equations + 1) listed.now.rows }
         requires within { self.old.rows ≤ length listed.now.rows }
         requires reach_count { length self.old.reaches.items ≡ self.old.rows }
+        requires turned { IsTrue known → IsTurnedTo listed.now.rows self.old.rows self.old.mirror.items }
+        requires mirror { IsWholeOr listed.now.rows self.old.mirror.items }
         requires upto { IsSieveTo system.now.equations listed.now.rows norm self.old.rows self.old }
         ensures shelves { length self.new.shelves.shelves.items ≡ 256 }
         ensures reach_count { OnOk result (length self.new.reaches.items ≡ length listed.now.rows) }
@@ -448,7 +423,7 @@ impl Sieve {
     {
         let mut room = Room::new(alloc, system.width() as usize)?;
         self.find_reaches(listed, tree, &mut room.probe)?;
-        if self.turn_rows(alloc, listed)? {
+        if known {
             self.sift_couples(alloc, system, listed, tree, norm, &mut room)
         } else {
             self.sift_singly(alloc, system, listed, tree, norm, &mut room)
@@ -468,13 +443,15 @@ impl Sieve {
         requires within { self.old.rows ≤ length listed.now.rows }
         requires reach_count { length self.old.reaches.items ≡ self.old.rows }
         requires reaches { AreReaches listed.now.rows self.old.reaches.items }
+        requires mirror { IsWholeOr listed.now.rows self.old.mirror.items }
         ensures probe { length probe.new ≡ length probe.old }
         ensures same { HasNewReaches self.old self.new }
         ensures reach_count { OnOk result (length self.new.reaches.items ≡ length listed.now.rows) }
         ensures reaches { OnOk result (AreReaches listed.now.rows self.new.reaches.items) }
     {
         for i in self.rows..listed.len() {
-            self.reaches.push(reach_at(listed, tree, i, probe))?;
+            let reach = reach_or(listed, tree, &self.reaches, &self.mirror, i, probe);
+            self.reaches.push(reach)?;
         }
         Ok(())
     }

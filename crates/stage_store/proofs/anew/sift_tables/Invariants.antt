@@ -2,7 +2,7 @@
 use Rattle.std.proofs.Common.{◌≡◌, ◌<◌, ℕ, [], length, slice_index_or, true}
 use Rattle.stage_store.specs.Sieve.{AreSiftedBy}
 use Rattle.stage_store.specs.Shelves.{Stay}
-use Rattle.stage_store.proofs.sieve.sift_tables.Given as goal
+use Rattle.stage_store.proofs.anew.sift_tables.Given as goal
 
 abbrev pub invariant-loop-k : goal.invariant-loop-k
 invariant-loop-k l = record {
