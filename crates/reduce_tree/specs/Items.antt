@@ -1,4 +1,4 @@
--- Where a row is filed: in a part by the sign of its last entry, and there by the classes of its last items before that.
+-- Where a row is filed: in a part by the sign of its last entry, and there by the classes of its first items.
 use Rattle.std.specs.Prelude.{◌≡◌, ◌⊎◌, ℕ, zero, suc, ◌+◌, ◌-◌, ◌*◌, List, ℤ, pos, negsuc, nat_abs, min, length, slice_index_or}
 use Rattle.std.specs.Int.{bit_at}
 use Rattle.reduce_tree.specs.declared.items.Key.{Key}

@@ -1,14 +1,23 @@
-//! Where a row is filed: in a part by the sign of its last entry, and there by the classes of its last items before that.
+//! Where a row is filed: in a part by the sign of its last entry, and there by the classes of its first items, from one
+//! side or the other.
 //!
 //! An item is a column with a sign: number 2 c for entries of column c that are not below 0, and 2 c + 1 for those below.
 //! The class of an item is the number of its first mark in a signature. In rows of more than 64 entries some items share
-//! one, and a search looks at more rows than it need. The last columns are those of slacks and of x0, in which few rows
-//! agree.
+//! one, and a search looks at more rows than it need.
 
-ghost use Rattle.std.specs.Prelude.{◌≡◌, ◌≢◌, ◌+◌, ◌*◌, ◌<◌, ◌≤◌, ℕ, pos, length, slice_index_or, IfSome};
+ghost use Rattle.std.specs.Prelude.{◌≡◌, ◌+◌, ◌*◌, ◌<◌, ◌≤◌, length, IfSome};
 ghost use Rattle.reduce_tree.specs.Items.{item_at, part_at, part_of, size_of, IsRowClass, IsKeyOf};
 
-/// A row's part, and the classes of its last three items before the last entry: 127 for each that it does not have.
+/// From which side the columns are looked at that a row is filed by. The last entry of a row is none of them.
+#[derive(Clone, Copy, Drop)]
+pub enum FiledBy {
+    /// From the first column on.
+    FirstColumns,
+    /// From the last column on: where few rows agree in these, as in a column of x0.
+    LastColumns,
+}
+
+/// A row's part, and the classes of its first three items: 127 for each that it does not have.
 #[derive(Clone, Copy)]
 pub struct Key {
     pub part: u8,
@@ -27,7 +36,7 @@ pub fn item_at(column: usize, entry: i64) -> usize
 }
 
 /// The key of a row with this signature, for which each item has marks for `levels` thresholds.
-pub fn key_of(row: &[i64], levels: usize, bits: u128) -> Key
+pub fn key_of(row: &[i64], by: FiledBy, levels: usize, bits: u128) -> Key
     requires narrow { length row.now ≤ 130 }
     requires levels { levels ≤ 16 }
     ensures key { IsKeyOf row.now bits result }
@@ -35,39 +44,53 @@ pub fn key_of(row: &[i64], levels: usize, bits: u128) -> Key
     ensures second { result.second < 128 }
     ensures third { result.third < 128 }
 {
-    let first = column_before(row, row.len().checked_sub(1));
-    let second = column_before(row, first);
-    let third = column_before(row, second);
+    let first = place_from(row, by, 0);
+    let second = place_from(row, by, first + 1);
+    let third = place_from(row, by, second + 1);
     Key {
         part: part_of(row),
-        first: class_in(row, first, levels, bits),
-        second: class_in(row, second, levels, bits),
-        third: class_in(row, third, levels, bits),
+        first: class_at(row, by, first, levels, bits),
+        second: class_at(row, by, second, levels, bits),
+        third: class_at(row, by, third, levels, bits),
     }
 }
 
-/// The last column before another with an entry that is not 0.
-fn column_before(row: &[i64], end: Option<usize>) -> Option<usize>
-    ensures { IfSome result (λ c. (c < length row.now)
-        × (slice_index_or row.now c (pos 0) ≢ pos 0)) }
+/// The column that is looked at as number `place`, if there is one.
+fn column_at(row: &[i64], by: FiledBy, place: usize) -> Option<usize>
+    ensures { IfSome result (λ column. column < length row.now) }
 {
-    for column in (0..row.len().min(end?)).rev() {
-        if row[column] != 0 {
-            return Some(column);
+    let columns = row.len().checked_sub(1)?;
+    if place >= columns {
+        return None;
+    }
+    match by {
+        FiledBy::FirstColumns => Some(place),
+        FiledBy::LastColumns => Some(columns - 1 - place),
+    }
+}
+
+/// The first place from one on whose column has an entry that is not 0, or the number of entries where there is none.
+fn place_from(row: &[i64], by: FiledBy, from: usize) -> usize
+    ensures { result ≤ length row.now }
+{
+    for place in from..row.len() {
+        if let Some(column) = column_at(row, by, place) {
+            if row[column] != 0 {
+                return place;
+            }
         }
     }
-    None
+    row.len()
 }
 
-/// The class of the item of a row's entry in a column, and 127 where there is none.
-fn class_in(row: &[i64], column: Option<usize>, levels: usize, bits: u128) -> u8
+/// The class of the item of a row's entry at a place, and 127 where there is none.
+fn class_at(row: &[i64], by: FiledBy, place: usize, levels: usize, bits: u128) -> u8
     requires narrow { length row.now ≤ 130 }
-    requires column { IfSome column (λ c. c < length row.now) }
     requires levels { levels ≤ 16 }
     ensures class { IsRowClass bits result }
     ensures most { result < 128 }
 {
-    if let Some(column) = column {
+    if let Some(column) = column_at(row, by, place) {
         let class = item_at(column, row[column]) * levels % 128;
         if (bits >> class) & 1 == 1 {
             return class as u8;

@@ -6,8 +6,8 @@
 //! - Its last entry is 0 or has the sign of z's last entry. Rows are filed in three *parts*, by the sign of their last
 //!   entry, and a search looks into two of them at most.
 //! - Each of its entries that is not 0 has the sign of z's entry in that column. An *item* is a column with a sign, and
-//!   its *class* a number below 128. In a part, rows are filed by the classes of their first three items: three *tiers*
-//!   of branches lead from class to class to a *bucket*. A search goes down the classes of z alone.
+//!   its *class* a number below 128. In a part, rows are filed by the classes of three items, the first ones from one
+//!   side or the other: three *tiers* of branches lead from class to class to a *bucket*. A search goes down the classes of z alone.
 //! - Each threshold that one of its entries reaches is reached by z's entry. The *signature* of a vector has bits for
 //!   the thresholds that its entries reach, so the row's is part of z's. And the *size* of its last entry, the absolute
 //!   value, is at most that of z's. In a bucket, eight neighbours (an *eight*) have a word that is true of each: bits of
@@ -27,4 +27,5 @@ mod signature;
 mod tier;
 mod tree;
 
+pub use items::FiledBy;
 pub use tree::Tree;

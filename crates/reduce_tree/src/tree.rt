@@ -9,7 +9,7 @@ ghost use Rattle.reduce_tree.specs.Inside.Bounds.{word_of};
 
 use crate::bounds::{Bounds, Word};
 use crate::index::Index;
-use crate::items::{Key, key_of, part_of, size_of};
+use crate::items::{FiledBy, Key, key_of, part_of, size_of};
 use crate::signature::signature;
 use int_vector::Visits;
 use row_pool::{Pool, RowId};
@@ -50,6 +50,7 @@ impl Filed {
 pub struct Tree {
     alloc: Global,
     width: u32,
+    by: FiledBy,
     /// For how many thresholds each item has marks.
     levels: u32,
     /// What was inserted, in order.
@@ -78,9 +79,20 @@ impl Tree {
         ensures width { result.width ≡ width }
         ensures filed { result.filed ≡ [] }
     {
+        Tree::filed_by(alloc, width, FiledBy::FirstColumns)
+    }
+
+    /// The same, whose rows are filed by the columns of one side. How many rows a search looks at depends on that, and
+    /// nothing else does.
+    pub fn filed_by(alloc: Global, width: u32, by: FiledBy) -> Tree
+        requires { width ≤ 130 }
+        ensures width { result.width ≡ width }
+        ensures filed { result.filed ≡ [] }
+    {
         Tree {
             alloc,
             width,
+            by,
             // As many marks for each of the `2 * width` items as 128 bits have room for.
             levels: (64 / width.max(1)).clamp(1, 16),
             filed: Vec::new(alloc),
@@ -110,7 +122,7 @@ impl Tree {
         }
         let row = pool.row(id);
         let bits = signature(row, self.levels as usize);
-        let key = key_of(row, self.levels as usize, bits);
+        let key = key_of(row, self.by, self.levels as usize, bits);
         let bucket = self.index.bucket_for(self.alloc, &key)?;
         self.filed.reserve(1)?;
         let filed = file(row, id.0, bucket, key, bits);

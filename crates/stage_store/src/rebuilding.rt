@@ -1,7 +1,7 @@
 //! What a stage keeps beside its listed rows, made anew from them: the tree that holds them, and
 //! their classes.
 
-ghost use Rattle.std.specs.Prelude.{◌≡◌, ◌<◌, ◌≤◌, ◌^◌, ℕ, length, take, drop, IfOk};
+ghost use Rattle.std.specs.Prelude.{◌≡◌, ◌<◌, ◌≤◌, ◌^◌, ℕ, [], length, take, drop, IfOk};
 ghost use Rattle.std.specs.List.{AllByRecursion};
 ghost use Rattle.std.specs.List.Sorted.{IsStrictlySortedBy};
 ghost use Rattle.lift_core.specs.Stages.{stage_norm, norm_cmp};
@@ -12,16 +12,31 @@ ghost use Rattle.stage_store.specs.Opened.{AscendWithin};
 use crate::class::Class;
 use crate::counting::norm_at;
 use crate::growing::{add_class, has_sign, waits_up_to};
-use reduce_tree::Tree;
+use lift_core::Tool;
+use reduce_tree::{FiledBy, Tree};
 use row_pool::{Pool, RowId};
 use std::alloc::{AllocError, Global};
 
+/// A tree without rows for the stages of a tool. The last column of `zsolve` is that of x0, in which few rows agree.
+pub fn empty_tree(alloc: Global, tool: Tool, width: u32) -> Tree
+    requires { width ≤ 130 }
+    ensures width { result.width ≡ width }
+    ensures filed { result.filed ≡ [] }
+{
+    let by = if tool == Tool::Zsolve {
+        FiledBy::LastColumns
+    } else {
+        FiledBy::FirstColumns
+    };
+    Tree::filed_by(alloc, width, by)
+}
+
 /// A tree that holds all rows.
-pub fn tree_of(alloc: Global, listed: &Pool) -> Result<Tree, AllocError>
+pub fn tree_of(alloc: Global, tool: Tool, listed: &Pool) -> Result<Tree, AllocError>
     requires { listed.now.width ≤ 130 }
     ensures { IfOk result (λ tree. HoldsRows tree listed.now) }
 {
-    let mut tree = Tree::new(alloc, listed.width());
+    let mut tree = empty_tree(alloc, tool, listed.width());
     for i in 0..listed.len() {
         tree.insert(listed, RowId(i))?;
     }

@@ -31,7 +31,7 @@ use crate::lifting::{extended, kept_solutions, units};
 use crate::numbered::{Hints, gather_all, take_opened, take_range};
 use crate::opened::{Halves, OpenPair, Opened, open_norm};
 use crate::order::in_order;
-use crate::rebuilding::{classes_of, tree_of};
+use crate::rebuilding::{classes_of, empty_tree, tree_of};
 use crate::sieve::Sieve;
 use crate::tally::Tally;
 use int_vector::{Visits, add_into, conformal, norm};
@@ -231,7 +231,7 @@ impl Stage {
         system.keeps();
         let waiting = extended(alloc, &system, number, &solutions)?;
         let listed = Pool::new(alloc, system.width() + 1);
-        let tree = Tree::new(alloc, system.width() + 1);
+        let tree = empty_tree(alloc, system.tool(), system.width() + 1);
         let mut stage = Stage {
             alloc,
             system,
@@ -274,6 +274,7 @@ impl Stage {
             (λ s. s ≡ stage_of system number norm used listed.rows waiting.rows) }
         ensures used { IfOk result (λ s. used_of s ≡ used) }
     {
+        let tool = system.tool();
         let before = used - pairs_within(&listed, norm);
         let mut stage = Stage {
             alloc,
@@ -282,7 +283,7 @@ impl Stage {
             norm,
             before,
             used,
-            tree: tree_of(alloc, &listed)?,
+            tree: tree_of(alloc, tool, &listed)?,
             plus: classes_of(alloc, &listed, true)?,
             minus: classes_of(alloc, &listed, false)?,
             listed,
