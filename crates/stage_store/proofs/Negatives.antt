@@ -1,23 +1,21 @@
 -- Negatives of rows: where the negative of each listed row is listed, a pair and that of the negatives of its rows have an
 -- irreducible sum together or not at all.
-use Rattle.std.proofs.Common.{◌≡◌, ◌⊎◌, ℕ, zero, suc, ◌+◌, ◌-◌, ◌*◌, ◌/◌, ◌%◌, ◌≤◌, ◌<◌, List, [], ◌∷◌, ◌++◌, length, length-append, get_or, take, refl, ap, sym, ◌∙◌, subst, subst₂, arith, inl, inr, Bool, true, false, cond}
-use Rattle.std.specs.Prelude.{ℤ, pos, ◌<ℤ◌, ◌≤ℤ◌, ◌+ℤ◌, ◌*ℤ◌, neg_ℤ, nat_abs, int_lt, not, map, Option, Some, None, ◌==◌}
+use Rattle.std.proofs.Common.{◌≡◌, ℕ, zero, suc, ◌+◌, ◌-◌, ◌*◌, ◌/◌, ◌%◌, ◌≤◌, ◌<◌, List, [], ◌∷◌, ◌++◌, length, length-append, get_or, refl, ap, sym, ◌∙◌, subst, subst₂, arith, inl, inr, Bool, true, false, cond}
+use Rattle.std.specs.Prelude.{ℤ, pos, ◌<ℤ◌, ◌≤ℤ◌, ◌+ℤ◌, ◌*ℤ◌, neg_ℤ, nat_abs, int_lt, not, Option, Some, None, ◌==◌}
 use Rattle.std.specs.List.{Contains, AllZip}
 use Rattle.std.proofs.lemmas.Bool.{cases_eq, cases_lt, cases_Bool}
 use Rattle.std.proofs.lemmas.Int.{ints}
 use Rattle.std.proofs.lemmas.List.{length-map, get_or_default, get_or_append_left, get_or-append-add}
 use Rattle.std.proofs.lemmas.List.Elements.{Contains-get_or}
-use Rattle.int_vector.specs.Vectors.{◌⊑◌, IsWithin, negated, norm}
+use Rattle.int_vector.specs.Vectors.{◌⊑◌, negated, norm}
 use Rattle.int_vector.specs.Operations.{add, AreConformal}
 use Rattle.int_vector.proofs.Vectors.{conformal_swap, add_comm}
 use Rattle.lift_core.specs.Systems.{LinearSystem, ObeysCaps}
 use Rattle.lift_core.specs.Columns.{IsCapped}
-use Rattle.lift_core.specs.PairSums.{HasSum}
 use Rattle.lift_core.specs.Stages.{front, last, stage_norm, has_positive_last, has_negative_last}
 use Rattle.stage_store.specs.Classes.{row_at}
 use Rattle.stage_store.specs.Found.{IsSumOf}
 use Rattle.stage_store.specs.Signs.{IsSigned}
-use Rattle.stage_store.specs.Lines.{IsSaid}
 use Rattle.stage_store.specs.Levels.{ReachesAt, MakesNone, BarsAt, BarsLine, AreTrue, is_plus}
 use Rattle.stage_store.specs.Mirror.{HasNegatives, IsMirror, IsWholeMirror, IsTurnedTo, AreNegatives, AddsTurned, IsTurnedLevels, place_in, turned_place, turned_item}
 use Rattle.stage_store.specs.Reaches.{entry_against, with_reach, IsReachOr}

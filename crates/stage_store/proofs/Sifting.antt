@@ -18,10 +18,10 @@ use Rattle.stage_store.specs.declared.table.Table.{Table}
 use Rattle.stage_store.specs.declared.sieve.KeptPair.{KeptPair}
 use Rattle.stage_store.specs.Sieve.{AreSifted, IsTable, IsBefore, IsTurnedBefore, IsSieveTo, IsSieve, IsNewSieve, AreCoupledTo, HasNewReaches, HasNewMirror, HasNoNewSumBy, IsSiftedBy, AreBothSifted, AreSiftedBefore, AreSiftedBy, IsCoupleSifted, AreWide, AreReads, AreBetween, IsGroup, IsSized, IsDead, pair_by}
 use Rattle.stage_store.specs.Mirror.{IsMirror, IsWholeMirror, IsWholeOr, IsTurnedTo, AreCouples, place_in}
-use Rattle.stage_store.proofs.Negatives.{none_turned, norm_at_mirror, no_mirror, under_negated, above_negated, negated_twice}
+use Rattle.stage_store.proofs.Negatives.{none_turned, norm_at_mirror, no_mirror, under_negated, above_negated}
 use Rattle.stage_store.specs.Lines.{Tell, AreMarked}
 use Rattle.stage_store.specs.Levels.{BarsLine, ReachesLine}
-use Rattle.stage_store.proofs.Tables.{no_table, table_less, table_as, before_more, before_cases}
+use Rattle.stage_store.proofs.Tables.{no_table, table_less, table_as, before_cases}
 use Rattle.std.specs.Prelude.{Result, Ok, Err, OnOk}
 use Rattle.stage_store.specs.Reaches.{AreReaches}
 use Rattle.stage_store.proofs.Classes.{each_at}

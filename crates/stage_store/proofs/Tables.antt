@@ -13,7 +13,6 @@ use Rattle.std.proofs.Common.{set, max}
 use Rattle.stage_store.specs.Lines.{MarksRow}
 use Rattle.stage_store.specs.Levels.{AreTrue}
 use Rattle.stage_store.specs.Classes.{row_at, places}
-use Rattle.std.proofs.Common.{◌^◌}
 use Rattle.std.proofs.lemmas.List.{take-append-drop}
 use Rattle.lift_core.specs.Systems.{LinearSystem}
 use Rattle.lift_core.specs.ToolSystems.{width}

@@ -242,9 +242,7 @@ pub fn sift_anew(
         (AreSifted system.now.equations listed.now.rows (length reaches.now) shelves.new) }
 {
     if are_couples(mirror, &plus.ids, &minus.ids) {
-        sift_couples_anew(
-            alloc, shelves, system, listed, reaches, mirror, plus, minus,
-        )
+        sift_couples_anew(alloc, shelves, system, listed, reaches, mirror, plus, minus)
     } else {
         sift_tables(alloc, shelves, system, listed, reaches, plus, minus)
     }

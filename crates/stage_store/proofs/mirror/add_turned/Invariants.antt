@@ -1,4 +1,3 @@
-use Rattle.std.proofs.Common.{length}
 use Rattle.stage_store.proofs.Negatives.{AddsTurnedTo}
 use Rattle.stage_store.proofs.mirror.add_turned.Given as goal
 

@@ -1,4 +1,4 @@
-use Rattle.std.proofs.Common.{◌≡◌, ◌<◌, ℕ, ℤ, pos, slice_index_or}
+use Rattle.std.proofs.Common.{◌≡◌, ◌<◌, ℕ, pos, slice_index_or}
 use Rattle.std.specs.Prelude.{neg_ℤ}
 use Rattle.stage_store.proofs.mirror.is_negative.Given as goal
 

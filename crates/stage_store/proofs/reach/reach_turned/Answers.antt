@@ -1,12 +1,11 @@
 -- The row is the negative of the one at its mirrored place, and its last entry is not 0: so the other's reach is its own.
-use Rattle.std.proofs.Common.{◌≡◌, ◌∙◌, ◌-◌, ◌<◌, length, get_or, ap, sym, subst, arith}
+use Rattle.std.proofs.Common.{◌≡◌, ◌∙◌, ◌-◌, length, get_or, ap, sym, arith}
 use Rattle.std.specs.Prelude.{pos}
 use Rattle.std.proofs.lemmas.Int.{ints}
 use Rattle.lift_core.specs.Stages.{last}
 use Rattle.lift_core.proofs.Stages.{last-get_or}
 use Rattle.stage_store.specs.Classes.{row_at}
 use Rattle.stage_store.specs.Mirror.{place_in}
-use Rattle.stage_store.specs.Reaches.{IsReachOr}
 use Rattle.stage_store.proofs.Negatives.{reach_at_mirror}
 use Rattle.stage_store.proofs.reach.reach_turned.Goals as goal
 

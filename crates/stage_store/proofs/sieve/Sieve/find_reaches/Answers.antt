@@ -1,4 +1,4 @@
-use Rattle.std.proofs.Common.{length-append, length, arith}
+use Rattle.std.proofs.Common.{arith}
 use Rattle.stage_store.proofs.Reaches.{one_reach_more}
 use Rattle.stage_store.proofs.sieve.Sieve.find_reaches.Goals as goal
 

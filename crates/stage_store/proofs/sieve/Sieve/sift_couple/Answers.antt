@@ -5,14 +5,14 @@ use Rattle.std.specs.Prelude.{ℤ, OnOk}
 use Rattle.std.proofs.lemmas.List.{get_or_default}
 use Rattle.int_vector.specs.Vectors.{negated}
 use Rattle.lift_core.specs.ToolSystems.{width}
-use Rattle.lift_core.specs.Stages.{stage_norm, has_positive_last, has_negative_last}
+use Rattle.lift_core.specs.Stages.{stage_norm, has_positive_last}
 use Rattle.stage_store.specs.Classes.{row_at}
 use Rattle.stage_store.specs.Levels.{AreTrue, BarsLine, ReachesLine}
-use Rattle.stage_store.specs.Mirror.{place_in, IsTurnedLevels}
+use Rattle.stage_store.specs.Mirror.{place_in}
 use Rattle.stage_store.specs.Shelves.{IsKept}
 use Rattle.stage_store.specs.Sieve.{AreSized, AreGroups, IsTable, IsBefore, IsTurnedBefore, IsSiftedBy, AreSiftedBy, pair_by}
 use Rattle.stage_store.proofs.Negatives.{mirror_closed, levels_negated, norm_at_mirror}
-use Rattle.stage_store.proofs.Sifting.{on_ok_couple, turned_cases, turned_here, stay_through, sifted_stays, both_stay}
+use Rattle.stage_store.proofs.Sifting.{on_ok_couple, turned_cases, turned_here, stay_through, both_stay}
 use Rattle.stage_store.proofs.Tables.{table_put, on_ok_table, on_ok_groups, before_more, before_cases}
 use Rattle.stage_store.proofs.sieve.Sieve.sift_couple.Goals as goal
 

@@ -1,7 +1,6 @@
 -- Finding reaches changes nothing else, so the rows that were sifted still are.
-use Rattle.std.proofs.Common.{ℕ, List, refl, subst, subst₂, sym}
+use Rattle.std.proofs.Common.{refl, subst, subst₂, sym}
 use Rattle.stage_store.specs.Mirror.{IsMirror, IsTurnedTo}
-use Rattle.stage_store.specs.Sieve.{IsSieveTo}
 use Rattle.stage_store.proofs.Sifting.{sieve_as}
 use Rattle.stage_store.proofs.sieve.Sieve.sift_rows.Goals as goal
 

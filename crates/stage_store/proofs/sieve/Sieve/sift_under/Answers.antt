@@ -1,7 +1,7 @@
 -- The row's pairs with those of the other table are sifted, and it joins the table of negative last entries with its
 -- lines and its norm: so the sieve holds one row more.
 use Rattle.std.proofs.Common.{◌≡◌, ◌∙◌, ◌+◌, ◌*◌, ℕ, List, length, ap, sym, subst, arith, refl, true, false}
-use Rattle.std.specs.Prelude.{ℤ, OnOk}
+use Rattle.std.specs.Prelude.{OnOk}
 use Rattle.lift_core.specs.ToolSystems.{width}
 use Rattle.lift_core.specs.Stages.{stage_norm, has_positive_last, has_negative_last}
 use Rattle.stage_store.specs.Classes.{row_at}
