@@ -49,8 +49,8 @@ module _ (bucket : List Filed) (n from : ℕ) where
 -- what a search of the rows from a place on says of all
 pub found_from : (bucket : List Filed) (from : ℕ) (rows : List (List ℤ)) (z : List ℤ) (bounds : Bounds) (found : Option RowId) → AreNoneBelow bucket rows z bounds from
     → MatchOption found
-      (AreNoneBelow (take (length bucket - from) (drop from bucket)) rows z bounds (length (take (length bucket - from) (drop from bucket))))
-      (λ id. IsBelowAt (take (length bucket - from) (drop from bucket)) rows z bounds id.0)
+    (AreNoneBelow (take (length bucket - from) (drop from bucket)) rows z bounds (length (take (length bucket - from) (drop from bucket))))
+    (λ id. IsBelowAt (take (length bucket - from) (drop from bucket)) rows z bounds id.0)
     → MatchOption found (AreNoneBelow bucket rows z bounds (length bucket)) (λ id. IsBelowAt bucket rows z bounds id.0)
 found_from bucket from rows z bounds None before here = λ k f l. none_in_part bucket (length bucket - from) from rows z bounds before here k (omega (arith, l)) l
 found_from bucket from rows z bounds (Some id) before here = below_in_part bucket (length bucket - from) from rows z bounds id.0 here
@@ -67,19 +67,22 @@ module _ (bucket : List Filed) (outside : ℕ) where
       → bit_at more to ≡ 1 → ((k : ℕ) → k ≢ to → bit_at more k ≡ bit_at set k) → IsSetOfApart bucket outside (to + 1) more
   apart_more to set more before here same others k = elim (cases_eq k to) [
     | inl e ↦ ((λ _. (omega (arith, e), subst (λ i. bit_and (get_or bucket i nothing_filed).bits outside ≡ 0) (sym e) here)), (λ _. ap (bit_at more) e ∙ same))
-    | inr d ↦
-        ((λ s. let h = (before k).0 (sym (others k d) ∙ s) in (omega (arith, h.0), h.1)),
-        (λ h. others k d ∙ (before k).1 (omega (arith, d, h.0), h.1)))
+    | inr d ↦ (
+      (λ s. let h = (before k).0 (sym (others k d) ∙ s) in (omega (arith, h.0), h.1)),
+      (λ h. others k d ∙ (before k).1 (omega (arith, d, h.0), h.1)),
+    )
   ]
 
   pub apart_same : (to set : ℕ) → IsSetOfApart bucket outside to set → bit_and (get_or bucket to nothing_filed).bits outside ≢ 0 → IsSetOfApart bucket outside (to + 1) set
   apart_same to set before here k = elim (cases_eq k to) [
-    | inl e ↦
-        ((λ s. let h = (before k).0 s in (omega (arith, h.0), h.1)),
-        (λ h. absurd (here (subst (λ i. bit_and (get_or bucket i nothing_filed).bits outside ≡ 0) e h.1))))
-    | inr d ↦
-        ((λ s. let h = (before k).0 s in (omega (arith, h.0), h.1)),
-        (λ h. (before k).1 (omega (arith, d, h.0), h.1)))
+    | inl e ↦ (
+      (λ s. let h = (before k).0 s in (omega (arith, h.0), h.1)),
+      (λ h. absurd (here (subst (λ i. bit_and (get_or bucket i nothing_filed).bits outside ≡ 0) e h.1))),
+    )
+    | inr d ↦ (
+      (λ s. let h = (before k).0 s in (omega (arith, h.0), h.1)),
+      (λ h. (before k).1 (omega (arith, d, h.0), h.1)),
+    )
   ]
 
   -- the number of a row is put in as a 0 or a 1 that is moved to its bit

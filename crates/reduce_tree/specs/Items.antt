@@ -1,9 +1,11 @@
--- Where a row is filed: in a part by the sign of its last entry, and there by the classes of its first items.
+-- Where a row is filed: in a part by the sign of its last entry, and there by the classes of its
+-- first items.
 use Rattle.std.specs.Prelude.{◌≡◌, ◌⊎◌, ℕ, zero, suc, ◌+◌, ◌-◌, ◌*◌, List, ℤ, pos, negsuc, nat_abs, min, length, slice_index_or}
 use Rattle.std.specs.Int.{bit_at}
 use Rattle.reduce_tree.specs.declared.items.Key.{Key}
 
--- an item is a column with a sign: 2 c for entries of column c that are not below 0, and 2 c + 1 for those below
+-- an item is a column with a sign: 2 c for entries of column c that are not below 0, and 2 c + 1 for
+-- those below
 abbrev pub item_at : ℕ → ℤ → ℕ
 item_at column (pos n) = 2 * column
 item_at column (negsuc n) = 2 * column + 1

@@ -1,5 +1,5 @@
--- A tree as contracts see it: what was inserted, in order. A caller needs `places_of`, `Fits`, `AreNotBelow` and
--- `AreNotBelowBefore`; the rest says what is filed of a row.
+-- A tree as contracts see it: what was inserted, in order. A caller needs `places_of`, `Fits`,
+-- `AreNotBelow` and `AreNotBelowBefore`; the rest says what is filed of a row.
 use Rattle.std.specs.Prelude.{◌≡◌, ℕ, ◌<◌, ℤ, List, [], map, length, slice_index_or}
 use Rattle.std.specs.List.{AllByRecursion, Contains}
 use Rattle.int_vector.specs.Vectors.{◌⊑◌}
@@ -8,7 +8,8 @@ use Rattle.reduce_tree.specs.declared.tree.Filed.{Filed}
 use Rattle.reduce_tree.specs.Items.{size_of, IsKeyOf}
 use Rattle.reduce_tree.specs.Signatures.{signature_of}
 
--- the width of the rows, for how many thresholds each item has marks, and the places with where they are filed
+-- the width of the rows, for how many thresholds each item has marks, and the places with where
+-- they are filed
 pub record TreeValue : Type 0 where
   pub width : ℕ
   pub levels : ℕ
@@ -28,8 +29,8 @@ pub record StandsAt (levels : ℕ) (rows : List (List ℤ)) (f : Filed) : Type 0
   pub size : f.size ≡ size_of (slice_index_or rows f.place [])
   pub bits : f.bits ≡ signature_of levels (slice_index_or rows f.place [])
 
--- at each place that was inserted the pool has a row of which what is filed is true; a tree without rows fits each pool
--- of its width
+-- at each place that was inserted the pool has a row of which what is filed is true; a tree without
+-- rows fits each pool of its width
 pub record Fits (t : TreeValue) (p : PoolValue) : Type 0 where
   pub width : p.width ≡ t.width
   pub rows : AllByRecursion (StandsAt t.levels p.rows) t.filed

@@ -77,7 +77,8 @@ impl Bucket {
 
     /// The place of a row that is below z and stands before the end.
     ///
-    /// Counts a visit for each row that is compared with z.
+    /// Counts a visit for each row that is compared with z. The rows after the last whole eight are
+    /// looked at one by one.
     pub fn find_below(
         &self,
         pool: &Pool,
@@ -112,8 +113,7 @@ impl Bucket {
 
 /// The place of one of at most eight rows that is below z and stands before the end.
 ///
-/// The signatures of all are asked first, and of the other numbers only those of the few rows whose signature is part of
-/// that of z.
+/// All are asked for their bits first. Most have some outside, and only the others are looked at.
 fn find_in_eight(
     rows: &[Filed],
     pool: &Pool,
@@ -144,7 +144,7 @@ fn set_of_apart(rows: &[Filed], outside: u128) -> u8
     requires { length rows.now ≤ 8 }
     ensures { IsSetOfApart rows.now outside (length rows.now) result }
 {
-    // Without a branch on a row: the rows of an eight are asked side by side.
+    // There is no branch for a row, so that the machine asks all of them side by side.
     let mut set = 0;
     for k in 0..rows.len() {
         let is_apart = rows[k].bits & outside == 0;
@@ -175,14 +175,10 @@ fn find_among(
     None
 }
 
-/// Whether the row is below z and stands before the end. Counts a visit where it is compared with z.
-fn is_found(
-    filed: &Filed,
-    pool: &Pool,
-    z: &[i64],
-    bounds: &Bounds,
-    visits: &mut Visits,
-) -> bool
+/// Whether the row is below z and stands before the end.
+///
+/// Counts a visit where it is compared with z.
+fn is_found(filed: &Filed, pool: &Pool, z: &[i64], bounds: &Bounds, visits: &mut Visits) -> bool
     requires marked { IsMarked pool.now.rows z.now bounds.now filed.now }
     requires width { pool.now.width ≡ length z.now }
     ensures { IsTrue result ↔ (filed.now.place < bounds.now.end)

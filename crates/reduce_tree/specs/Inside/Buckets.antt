@@ -1,4 +1,5 @@
--- Buckets: filed rows in the order in which they came, and words that are true of groups of neighbours.
+-- Buckets: filed rows in the order in which they came, and words that are true of groups of
+-- neighbours.
 use Rattle.std.specs.Prelude.{◌≡◌, ◌↔◌, ℕ, ◌/◌, ◌<◌, ℤ, List, [], length, slice_index_or, bit_and}
 use Rattle.std.specs.Int.{bit_at}
 use Rattle.int_vector.specs.Vectors.{◌⊑◌}
@@ -34,7 +35,8 @@ abbrev pub IsRuledOut : List Word → ℕ → Bounds → Type 0
 IsRuledOut words group bounds =
     (group < length words) × (Admits bounds (slice_index_or words group no_word) → ⊥)
 
--- the place is that of a row, and where that row is below z and stands before the end, the bounds admit what is filed
+-- the place is that of a row, and where that row is below z and stands before the end, the bounds
+-- admit what is filed
 pub record IsMarked (rows : List (List ℤ)) (z : List ℤ) (bounds : Bounds) (f : Filed) : Type 0 where
   pub inside : f.place < length rows
   pub admitted : slice_index_or rows f.place [] ⊑ z → f.place < bounds.end
@@ -57,7 +59,8 @@ IsBelowAt bucket rows z bounds id =
     × (id < bounds.end)
     × (slice_index_or rows id [] ⊑ z)
 
--- the set has the numbers of those of the first filed rows that have none of the bits outside, and no others
+-- the set has the numbers of those of the first filed rows that have none of the bits outside, and
+-- no others
 abbrev pub IsSetOfApart : List Filed → ℕ → ℕ → ℕ → Type 0
 IsSetOfApart bucket outside to set =
     (k : ℕ) → (bit_at set k ≡ 1)

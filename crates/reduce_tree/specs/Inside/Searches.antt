@@ -21,7 +21,8 @@ abbrev pub HasNoneIn : Index → List (List ℤ) → List ℤ → Bounds → ℕ
 HasNoneIn index rows z bounds b =
     AreNoneBelow (bucket_at index b) rows z bounds (length (bucket_at index b))
 
--- no row of a bucket that the classes of z lead to from a branch of the third, second or first tier is below z
+-- no row of a bucket that the classes of z lead to from a branch of the third, second or first tier
+-- is below z
 abbrev pub HasNoneUnderThird : Index → List (List ℤ) → List ℤ → Bounds → ℕ → Type 0
 HasNoneUnderThird index rows z bounds =
     AllKids index.third bounds.classes (HasNoneIn index rows z bounds)
@@ -39,7 +40,8 @@ abbrev pub IsBelowIn : Index → List (List ℤ) → List ℤ → Bounds → ℕ
 IsBelowIn index rows z bounds id =
     (b : ℕ) × (b < bucket_count index) × IsBelowAt (bucket_at index b) rows z bounds id
 
--- a fact on numbers holds of the kids of a branch whose classes are among some, but for those that are left
+-- a fact on numbers holds of the kids of a branch whose classes are among some, but for those that
+-- are left
 abbrev pub HoldsOfSearched : List BranchValue → ℕ → ℕ → (ℕ → Type 0) → ℕ → Type 0
 HoldsOfSearched tier classes rest P n =
     (c : ℕ) → bit_at classes c ≡ 1 → HasKidAt tier n c → (bit_at rest c ≡ 1) ⊎ P (kid_at tier n c)

@@ -33,4 +33,5 @@ kid_at tier n c = kid_of (branch_at tier n) c
 
 -- each kid of each branch stays
 abbrev pub KeepsSteps : List BranchValue → List BranchValue → Type 0
-KeepsSteps old new = (n c : ℕ) → HasKidAt old n c → HasKidAt new n c × (kid_at new n c ≡ kid_at old n c)
+KeepsSteps old new =
+    (n c : ℕ) → HasKidAt old n c → HasKidAt new n c × (kid_at new n c ≡ kid_at old n c)

@@ -27,10 +27,13 @@ bounds-rows-k-then-is_found c =
 
 pub returns-then-is_found : goal.returns-then-is_found
 returns-then-is_found c =
-    let found = c.if-is_found.ensures.0 refl in
-    (trailing_zeros w8 c.loop-rest.rest,
+    let found = c.if-is_found.ensures.0 refl in (
+      trailing_zeros w8 c.loop-rest.rest,
       c.loop-rest.invariant.inside (trailing_zeros w8 c.loop-rest.rest) (first_set c.loop-rest.rest c.loop-rest-test.true c.loop-rest.auto.rest-fits.fits).1,
-      refl, found.0, found.1)
+      refl,
+      found.0,
+      found.1,
+    )
 
 pub loop-rest-smaller : goal.loop-rest-smaller
 loop-rest-smaller c =
@@ -44,5 +47,5 @@ loop-rest-preserved c =
     record {
       inside = λ j s. c.loop-rest.invariant.inside j (set_of_both c.loop-rest.rest (bit_not w8 (1 * 2 ^ k % 2 ^ 8)) j s);
       looked_at = looked_at_more c.args.rows.now c.args.pool.now.rows c.args.z.now c.args.bounds.now c.loop-rest.rest k c.loop-rest.auto.rest-fits.fits first.0
-        (λ before below. let h = c.if-is_found.ensures.1 (before, below) in absurd cc) c.loop-rest.invariant.looked_at;
+          (λ before below. let h = c.if-is_found.ensures.1 (before, below) in absurd cc) c.loop-rest.invariant.looked_at;
     }

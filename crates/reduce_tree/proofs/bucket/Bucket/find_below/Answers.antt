@@ -45,5 +45,5 @@ returns c =
     found_from c.args.self.now from c.args.pool.now.rows c.args.z.now c.args.bounds.now c.find_among.result
     (λ k f l. c.loop-eight.invariant k (omega (arith, f, c.loop-eight-test.false)) l)
     (subst (λ (v : List Filed). MatchOption c.find_among.result
-      (AreNoneBelow (take (length v - from) (drop from v)) c.args.pool.now.rows c.args.z.now c.args.bounds.now (length (take (length v - from) (drop from v))))
-      (λ id. IsBelowAt (take (length v - from) (drop from v)) c.args.pool.now.rows c.args.z.now c.args.bounds.now id.0)) same c.find_among.ensures)
+    (AreNoneBelow (take (length v - from) (drop from v)) c.args.pool.now.rows c.args.z.now c.args.bounds.now (length (take (length v - from) (drop from v))))
+    (λ id. IsBelowAt (take (length v - from) (drop from v)) c.args.pool.now.rows c.args.z.now c.args.bounds.now id.0)) same c.find_among.ensures)
