@@ -1,8 +1,10 @@
 -- The ends of the command stand for those of the command that it runs.
-use Rattle.std.proofs.Common.{◌≡◌, ◌≢◌, ◌⊎◌, ◌∙◌, inl, inr, ℕ, List, [], Option, None, Some, Result, Ok, Err, IfSome, IsOkAnd, refl, ap, sym, subst}
+use Rattle.std.specs.Prelude.{true}
+use Rattle.std.proofs.Common.{◌≡◌, ◌≢◌, ◌⊎◌, ◌∙◌, inl, inr, ℕ, List, [], Option, None, Some, Result, Ok, Err, IfSome, IfOk, IsOkAnd, refl, ap, sym, subst}
 use Rattle.outside.specs.Files.{Files}
 use Rattle.lift_core.specs.declared.Tool.TheVariants.{Graver}
-use Rattle.system_files.specs.Inputs.{FindsBy}
+use Rattle.system_shape.specs.Shape.{tool_system}
+use Rattle.system_files.specs.Inputs.{FindsBy, IsShaped}
 use Rattle.system_files.specs.declared.sources.Source.{Source}
 use Rattle.system_files.specs.declared.systems.Shaped.{Shaped}
 use Rattle.system_files.specs.declared.faults.FileFault.TheVariants as file_fault
@@ -13,6 +15,8 @@ use Rattle.system_files.specs.declared.faults.InputStop.TheVariants as stop
 use Rattle.standing_pool.specs.declared.ends.StandEnd.TheVariants as run
 use Rattle.lift_run.specs.declared.ends.Place.TheVariants.{Row, Norm}
 use Rattle.lift_core.specs.declared.Tool.{Tool}
+use Rattle.backups.specs.Starts.{Stored}
+use Rattle.backups.specs.declared.starts.Start.TheVariants.{Fresh}
 use Rattle.tool_words.specs.declared.jobs.Job.{Job}
 use Rattle.tool_words.specs.declared.jobs.WordEnd.{WordEnd}
 use Rattle.tool_words.specs.declared.jobs.WordEnd.TheVariants as words
@@ -20,13 +24,13 @@ use Rattle.tool_top.specs.declared.ends.Part.{Part}
 use Rattle.tool_top.specs.declared.ends.Part.TheVariants.{Mat, Out}
 use Rattle.tool_top.specs.declared.ends.End.{End}
 use Rattle.tool_top.specs.declared.ends.End.TheVariants as top
-use Rattle.tool_top.specs.Plan.{Plan, input_for, project_of, part_of, answer_of, plan_of}
-use Rattle.tool_top.specs.Expected.{IsExpected, IsExpectedOr}
+use Rattle.tool_top.specs.Plan.{Plan, input_for, project_of, part_of, answer_of, plan_of, resumes}
+use Rattle.tool_top.specs.Expected.{StartsAs, IsExpected, IsExpectedOr}
 use Rattle.tool_top.specs.Left.{Traces, HasWritten, Leaves}
 use Rattle.tool_top.specs.Summary.{Tells}
 use Rattle.tool_top.specs.Inside.Ends.{Ends, end_of}
 use Rattle.tool_top.specs.Inside.Ends.{end_of_stop as tool_stop, end_of_words as tool_words}
-use Rattle.tool_top.proofs.Conclusions.{traces, ends-early, ends-words, all-written}
+use Rattle.tool_top.proofs.Conclusions.{traces, EndsOver, ends-early, ends-carried, found-fresh, ends-words, all-written}
 use Rattle.tool_top.proofs.Solved.{all-solved}
 use Rattle.stand_tool.specs.declared.request.Request.{Request}
 use Rattle.stand_tool.specs.declared.ends.TopEnd.{TopEnd}
@@ -36,7 +40,7 @@ use Rattle.stand_tool.specs.Plans.{plan_for, job_in}
 use Rattle.stand_tool.specs.Solved.{IsSolved}
 use Rattle.stand_tool.specs.Ends.{StandsFor, Stands, OnDone}
 use Rattle.stand_tool.specs.Inside.Ends.{Asks, end_of_stop, end_of_words}
-use Rattle.stand_tool.proofs.PlainJobs.{plain_tables, plain_resume}
+use Rattle.stand_tool.proofs.PlainJobs.{plain_start, plain_tables, plain_resume}
 
 -- what holds of an end of the command that is run, over a folder that tells its files
 pub over_stands : (end : TopEnd) (its : End) (held : Option Files) (P : Files → End → Type 0) → StandsFor end its
@@ -50,10 +54,14 @@ stands_stop (stop.Bad fault) = refl
 stands_stop (stop.Failed source) = (part_of source, refl)
 stands_stop stop.Memory = refl
 
-pub ends-stop : (tool : Tool) (job : Job) (held new : Option Files) (told : Option (List ℕ)) (e : InputStop) (end : TopEnd) → new ≡ held
-    → IfSome held (λ files. FindsBy (λ (s : Shaped). s.input) (Err e) (input_for tool job.tables (project_of job) files))
+pub ends-stop : (tool : Tool) (job : Job) (held new : Option Files) (told : Option (List ℕ)) (read : Result Shaped InputStop) (e : InputStop) (end : TopEnd)
+    → read ≡ Err e → new ≡ held
+    → IfSome held (λ files. FindsBy (λ (s : Shaped). s.input) read (input_for tool job.tables (project_of job) files))
     → end ≡ end_of_stop e → IfSome held (λ files. Stands end (Ends (plan_of tool job files) (traces files new told told)))
-ends-stop tool job held new told e end same found is =
+ends-stop tool job held new told read e end stopped same finds is =
+    let found : IfSome held (λ files. FindsBy (λ (s : Shaped). s.input) (Err e) (input_for tool job.tables (project_of job) files)) =
+    subst (λ (r : Result Shaped InputStop). IfSome held (λ files. FindsBy (λ (s : Shaped). s.input) r (input_for tool job.tables (project_of job) files)))
+    stopped finds in
     over_stands end (tool_stop e) held (λ files. Ends (plan_of tool job files) (traces files new told told))
     (subst (λ (x : TopEnd). StandsFor x (tool_stop e)) (sym is) (stands_stop e))
     (ends-early tool job held new told e (Err (tool_stop e)) same found refl)
@@ -90,6 +98,23 @@ pub outside_at_stop : (e : InputStop) (end : TopEnd) (A : Type 0) → end ≡ en
 outside_at_stop e end A is failed outside = outside_at e A failed (sym is ∙ outside)
 
 -- ---- the run came to its end
+pub ends-ran : (tool : Tool) (job : Job) (held mid new : Option Files) (told tells : Option (List ℕ)) (read : Result Shaped InputStop) (s : Shaped) (its : End) (end : TopEnd)
+    → read ≡ Ok s → mid ≡ held → is_plain job ≡ true
+    → IfSome held (λ files. FindsBy (λ (x : Shaped). x.input) read (input_for tool job.tables (project_of job) files))
+    → IfOk read (λ x. IsShaped tool x.input x.system) → StandsFor end its
+    → ((stored : Stored) → IsShaped tool s.input (tool_system tool s.input)
+    → StartsAs (record { job = job; tool = tool; input = s.input; stored = stored }) (Fresh s.system)
+    → EndsOver (Ok (record { job = job; tool = tool; input = s.input; stored = stored })) mid new told tells its)
+    → IfSome held (λ files. Stands end (Ends (plan_of tool job files) (traces files new told tells)))
+ends-ran tool job held mid new told tells read s its end is same plain finds shaped stands ends =
+    let found : IfSome held (λ files. input_for tool job.tables (project_of job) files ≡ Ok s.input) =
+    subst (λ (r : Result Shaped InputStop). IfSome held (λ files. FindsBy (λ (x : Shaped). x.input) r (input_for tool job.tables (project_of job) files)))
+    is finds in
+    let fits : IsShaped tool s.input s.system = subst (λ (r : Result Shaped InputStop). IfOk r (λ x. IsShaped tool x.input x.system)) is shaped in
+    over_stands end its held (λ files. Ends (plan_of tool job files) (traces files new told tells)) stands
+    (ends-carried tool job s.input held mid mid new told tells s.system (Fresh s.system) its same refl found fits
+    (found-fresh (resumes job) (project_of job) s.system mid (plain_start job plain)) ends)
+
 pub not_usage : (end : TopEnd) (its : End) → StandsFor end its → (its ≡ top.Usage → ⊥) → end ≡ Usage → ⊥
 not_usage end its stands other is = other (subst (λ (x : TopEnd). StandsFor x its) is stands)
 
