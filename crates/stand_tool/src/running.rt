@@ -2,6 +2,7 @@
 
 ghost use Rattle.std.specs.Prelude.{◌≡◌, ◌≤◌, ℕ, List, Some, IfOk, IfErr, IfSome};
 ghost use Rattle.outside.specs.Files.{Files};
+ghost use Rattle.lift_run.specs.declared.ends.RunEnd.TheVariants.{Failed};
 ghost use Rattle.lift_run.specs.Runs.{bounds, IsOfSystem, HasAllSolutions};
 ghost use Rattle.standing_pool.specs.Ends.{as_run, run_end_of};
 ghost use Rattle.backups.specs.declared.starts.Slot.TheVariants.{First};
@@ -44,6 +45,7 @@ fn run_end(end: StandEnd) -> RunEnd
 fn stopped(answer: Result<Finish, StandEnd>) -> Result<Finish, Stopped>
     ensures ended { ended result ≡ as_run answer }
     ensures next { IfErr result (λ s. s.next ≡ First) }
+    ensures sure { IfErr result (λ s. s.end ≡ Failed → ⊥) }
 {
     match answer {
         Ok(finish) => Ok(finish),
@@ -54,7 +56,8 @@ fn stopped(answer: Result<Finish, StandEnd>) -> Result<Finish, Stopped>
     }
 }
 
-/// Runs the lifting of a system from its first stage on with a team, as `backups::run_start` does from nothing and without backups.
+/// Runs the lifting of a system from its first stage on with a team, as `backups::run_start` does from nothing and without
+/// backups.
 ///
 /// # Errors
 /// As `standing_pool::run_standing`.
@@ -77,7 +80,11 @@ pub fn run_fresh<R: Threads + Wait + Sync, G: Gate + Sync>(
 
     // The files are left as a run without backups leaves them.
     ensures leaves { (first second : List ℕ) (files : Files)
-        → LeavesRun (turns_from First None first second) (bounds limits) (Fresh system) (came_to first second result) files (Some files) }
+        → LeavesRun (turns_from First None first second) (bounds limits) (Fresh system)
+        (came_to first second result) files (Some files) }
+
+    // No backup is written, so none fails.
+    ensures sure { IfErr result (λ s. s.end ≡ Failed → ⊥) }
 {
     stopped(run_standing(rt, alloc, system, limits, gate))
 }

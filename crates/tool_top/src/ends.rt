@@ -132,8 +132,8 @@ fn part_of_slot(slot: Slot) -> Part
     }
 }
 
-// The answer to a fault of the files.
-fn answer_of(fault: InputFault) -> End
+/// The answer to a fault of the files.
+pub fn answer_of(fault: InputFault) -> End
     ensures { result ≡ answer_of fault }
 {
     match fault {
@@ -221,16 +221,19 @@ pub(crate) fn refused_at(part: Part, refused: PutEnd) -> End
     }
 }
 
-// The numbers of a run that has written all: the rows of all files, the used pairs, and the sum of the rows' norms.
+/// The numbers of a run that has written all.
 #[derive(Clone, Copy)]
-pub(crate) struct Totals {
-    pub(crate) solutions: u64,
-    pub(crate) pairs: u64,
-    pub(crate) norm_total: u128,
+pub struct Totals {
+    /// The rows of all files.
+    pub solutions: u64,
+    /// The used pairs.
+    pub pairs: u64,
+    /// The sum of the rows' norms.
+    pub norm_total: u128,
 }
 
-// The end of a run that has come to its numbers, or was stopped.
-pub(crate) fn settle(outcome: Result<Totals, End>) -> End
+/// The end of a run that has come to its numbers, or was stopped.
+pub fn settle(outcome: Result<Totals, End>) -> End
     ensures { result ≡ end_of outcome }
 {
     match outcome {

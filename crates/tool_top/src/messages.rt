@@ -19,8 +19,8 @@ use mat_files::TextFault;
 use outside::{PutEnd, Sink, put_pieces};
 use system_shape::ShapeFault;
 
-// Puts a text.
-pub(crate) fn put_text<E: Sink>(err: &mut E, text: &[u8]) -> Result<(), PutEnd>
+/// Puts a text.
+pub fn put_text<E: Sink>(err: &mut E, text: &[u8]) -> Result<(), PutEnd>
     ensures done { OnOk result
         (E.held err.new ≡ append_known (E.held err.old) (text_of_parts (text.now ∷ []))) }
     ensures refused { OnErr result
@@ -360,8 +360,8 @@ fn put_spent<E: Sink>(
     )
 }
 
-// Puts what leaves the range.
-fn put_overflow<E: Sink>(err: &mut E, stage: u32, place: &Place) -> Result<(), PutEnd>
+/// Puts what leaves the range.
+pub fn put_overflow<E: Sink>(err: &mut E, stage: u32, place: &Place) -> Result<(), PutEnd>
     ensures done { OnOk result
         (E.held err.new
         ≡ append_known (E.held err.old) (text_of_parts (overflow_words stage place.now))) }
@@ -412,8 +412,8 @@ fn put_usage<E: Sink>(err: &mut E, tool: Tool) -> Result<(), PutEnd>
     }
 }
 
-// Puts the pairs that would be needed.
-fn put_pairs<E: Sink>(err: &mut E, stage: u32, norm: u64, needed: u64) -> Result<(), PutEnd>
+/// Puts the pairs that would be needed.
+pub fn put_pairs<E: Sink>(err: &mut E, stage: u32, norm: u64, needed: u64) -> Result<(), PutEnd>
     ensures done { OnOk result (E.held err.new ≡ append_known (E.held err.old)
         (text_of_parts (codes "pair budget spent at equation " ∷ decimal stage
         ∷ codes ", norm " ∷ decimal norm ∷ codes ": " ∷ decimal needed ∷ codes " pairs needed"
@@ -435,8 +435,8 @@ fn put_pairs<E: Sink>(err: &mut E, stage: u32, norm: u64, needed: u64) -> Result
     )
 }
 
-// Puts the rows that would be needed.
-fn put_rows<E: Sink>(err: &mut E, stage: u32, norm: u64, count: u64) -> Result<(), PutEnd>
+/// Puts the rows that would be needed.
+pub fn put_rows<E: Sink>(err: &mut E, stage: u32, norm: u64, count: u64) -> Result<(), PutEnd>
     ensures done { OnOk result (E.held err.new ≡ append_known (E.held err.old)
         (text_of_parts (codes "row budget spent at equation " ∷ decimal stage
         ∷ codes ", norm " ∷ decimal norm ∷ codes ": " ∷ decimal count ∷ codes " rows needed"
@@ -457,8 +457,8 @@ fn put_rows<E: Sink>(err: &mut E, stage: u32, norm: u64, count: u64) -> Result<(
     )
 }
 
-// Puts what a line says behind the tool's name. Of a run that is done it says nothing.
-fn put_words<E: Sink>(err: &mut E, tool: Tool, project: &str, end: &End) -> Result<(), PutEnd>
+/// Puts what a line says behind the tool's name. Of a run that is done it says nothing.
+pub fn put_words<E: Sink>(err: &mut E, tool: Tool, project: &str, end: &End) -> Result<(), PutEnd>
     ensures done { OnOk result
         (E.held err.new
         ≡ append_known (E.held err.old) (text_of_parts (line_words tool project.now end.now))) }

@@ -27,9 +27,9 @@ pub(crate) struct Output {
     grid: Grid,
 }
 
-// The output files of a run, in the order in which they are written.
+/// The output files of a run, in the order in which they are written.
 #[derive(Drop)]
-pub(crate) struct Outputs {
+pub struct Outputs {
     list: Vec<Output>,
 }
 
@@ -49,8 +49,8 @@ fn select_output(
     Ok(Output { part, grid })
 }
 
-// The output files of a finished run.
-pub(crate) fn select_outputs(alloc: Global, finish: &Finish) -> Result<Outputs, AllocError>
+/// The output files of a finished run.
+pub fn select_outputs(alloc: Global, finish: &Finish) -> Result<Outputs, AllocError>
     requires { finish.now.rows.width ≡ width finish.now.system.equations }
     ensures files { IfOk result (λ o.
         AreSelectedOf finish.now.system.tool finish.now.system finish.now.rows.rows

@@ -43,8 +43,8 @@ use system_shape::tables;
 use tool_words::{Job, WordEnd, read_words};
 use worker_gate::Gate;
 
-// The project's name, empty where there is none.
-fn project_of(job: &Job) -> &str
+/// The project's name, empty where there is none.
+pub fn project_of(job: &Job) -> &str
     ensures { result.now ≡ project_of job.now }
 {
     match &job.project {
@@ -89,8 +89,8 @@ fn restart_names(alloc: Global, job: &Job) -> Result<RestartNames, AllocError>
     Ok(RestartNames { first, second })
 }
 
-// Puts the summary of outputs that are written, and gives their numbers.
-fn tell<O: Sink>(out: &mut O, job: &Job, outputs: &Outputs, pairs: u64) -> Result<Totals, End>
+/// Puts the summary of outputs that are written, and gives their numbers.
+pub fn tell<O: Sink>(out: &mut O, job: &Job, outputs: &Outputs, pairs: u64) -> Result<Totals, End>
     requires { vec_len outputs.now.list ≤ 2 }
     ensures told { TellsOf job.now (outputs_of outputs.now) pairs (O.held out.old)
         (O.held out.new) result }
@@ -222,8 +222,8 @@ fn shape_tables(alloc: Global, tool: Tool, k: u32) -> Result<Shaped, InputStop>
     Ok(Shaped { input, system })
 }
 
-// The system of a job: that of the tables, or that of the project's files.
-fn read_job<F: Folder>(
+/// The system of a job: that of the tables, or that of the project's files.
+pub fn read_job<F: Folder>(
     alloc: Global,
     tool: Tool,
     job: &Job,
@@ -243,8 +243,8 @@ fn read_job<F: Folder>(
     }
 }
 
-// Writes the outputs of a job: none with tables.
-fn write_job<F: Folder>(
+/// Writes the outputs of a job: none with tables.
+pub fn write_job<F: Folder>(
     alloc: Global,
     job: &Job,
     folder: &mut F,
