@@ -37,7 +37,7 @@ later_waiting S limits (walk_finish none last) = 0
 abbrev pub NormsAreBounded : Type 0
 NormsAreBounded =
     (S : LinearSystem) (limits : Limits)
-        (k d used : ℕ)
-        (listed waiting : List (List ℤ)) (end : End)
-        (walk : WalkEnds S limits k d used listed waiting end)
+    (k d used : ℕ)
+    (listed waiting : List (List ℤ)) (end : End)
+    (walk : WalkEnds S limits k d used listed waiting end)
     → closed_norms S limits walk ≤ limits.pairs + (length waiting + later_waiting S limits walk)

@@ -68,7 +68,7 @@ abbrev pub MayStand :
 MayStand after torn limits final closed old new =
     (new ≡ option_map (λ x. fold after x closed) old)
     ⊎ ((t : StageValue) × IsClosing limits final t
-        × IfSome old (λ x. IfSome new (torn (fold after x closed) t)))
+    × IfSome old (λ x. IfSome new (torn (fold after x closed) t)))
 
 -- the walk breaks off: the Keep was told of the first norms that it closes, in order, each once, and a further one may have been refused
 pub record BreaksOff
@@ -85,7 +85,7 @@ abbrev pub TellsTo :
     → Bounds → StageValue → Option End → Option X → Option X → Type 0
 TellsTo after torn limits s named old new =
     MatchOption named (BreaksOff after torn limits s old new)
-        (λ end. ComesTo after limits s end old new)
+    (λ end. ComesTo after limits s end old new)
 
 -- what the Keep was told at an answer of a run; nothing, where the finish was handed in
 abbrev pub TellsKeep :

@@ -42,7 +42,7 @@ LeadsThroughPlaces =
     → Leads limits s closed final
     → EndsHere limits final end
     → (e : EndsIn s.system.equations limits s.number s.norm end)
-        × AreStagesAt s.system (closed_places s.system.equations limits e) closed
+    × AreStagesAt s.system (closed_places s.system.equations limits e) closed
 
 -- from defined lists, each stage that is closed on the way has the defined ones, also where no end is reached
 abbrev pub LeadsThroughDefined : Type 0

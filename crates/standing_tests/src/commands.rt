@@ -37,7 +37,8 @@ const TABLES_BASIS: &str = "15 9\n\
 1 0 -1 0 0 0 -1 0 1\n";
 
 // x = y, and an equation whose products reach the edge of the range.
-const AT_THE_EDGE: &str = "2 3\n1 -1 0\n4611686018427387904 4611686018427387903 -9223372036854775807\n";
+const AT_THE_EDGE: &str =
+    "2 3\n1 -1 0\n4611686018427387904 4611686018427387903 -9223372036854775807\n";
 
 // x1 + .. + x17 = x18 + .. + x34.
 const BALANCE: &str = "1 34\n\
@@ -92,7 +93,11 @@ fn outcome<R: Threads + Wait + Sync, G: Gate + Sync>(
 
 // A cell of a solution of the balance: 1 in one column of each side.
 fn balance_cell(column: u32, left: u32, right: u32) -> &'static str {
-    if column == left || column == right { "1" } else { "0" }
+    if column == left || column == right {
+        "1"
+    } else {
+        "0"
+    }
 }
 
 // The row of one of its minimal solutions.

@@ -15,9 +15,7 @@ mod summary;
 mod top;
 
 pub use ends::{End, Part, Status, Totals, answer_of, settle};
-pub use messages::{
-    put_message, put_overflow, put_pairs, put_rows, put_text, put_words,
-};
+pub use messages::{put_message, put_overflow, put_pairs, put_rows, put_text, put_words};
 pub use outputs::{Outputs, select_outputs};
 pub use program::run_program;
 pub use top::{project_of, read_job, run_tool, tell, write_job};
