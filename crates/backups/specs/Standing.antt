@@ -76,7 +76,7 @@ MayStandAfter turns limits final closed before after =
     ⊎ ((t : StageValue) × IsClosing limits final t × (k : ℕ)
     × (after
     ≡ Some (written (next_backup turns closed)
-        (take k (text_of_stage t)) (backed turns closed before))))
+    (take k (text_of_stage t)) (backed turns closed before))))
 
 -- the files have the backups of the first norms that the walk closes, and that of one more may be torn, the one that goes to
 -- the file `next`

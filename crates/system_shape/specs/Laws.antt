@@ -65,13 +65,13 @@ FirstEntriesDecide =
     (U : UserSystem) (v w : List ℤ) → IsWellFormed U → Solves (linear_system U) (length U.rows) v
     → Solves (linear_system U) (length U.rows) w
     → take (length U.signs) v ≡ take (length U.signs) w → x0_in U.has_x0 v ≡ x0_in U.has_x0 w
-        → v ≡ w
+    → v ≡ w
 
 -- what is written of the linear system is what the user's own system asks for
 abbrev pub WrittenForUser : Type 0
 WrittenForUser =
     (U : UserSystem) (n : ℕ) (kind : SolutionKind) (x : List ℤ)
-        → IsWellFormed U → n ≡ length U.signs
+    → IsWellFormed U → n ≡ length U.signs
     → HasKind U.has_x0 kind → IsWrittenOf (linear_system U) n kind x ↔ IsMinimalOfKind U kind x
 
 abbrev pub WantedForUser : Type 0
