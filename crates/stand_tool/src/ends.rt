@@ -70,7 +70,9 @@ pub(crate) fn end_for(end: End) -> TopEnd
 {
     match end {
         End::Done {
-            solutions, pairs, ..
+            solutions,
+            pairs,
+            ..
         } => TopEnd::Done { solutions, pairs },
         End::Overflow { stage, place } => TopEnd::Run(StandEnd::Overflow { stage, place }),
         End::Pairs {

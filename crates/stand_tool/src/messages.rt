@@ -66,11 +66,7 @@ fn put_line<E: Sink>(err: &mut E, project: &str, end: &TopEnd) -> Result<(), Put
 }
 
 // Puts the line of an end that is not Done. Where the project is not known, it is empty.
-pub(crate) fn put_message<E: Sink>(
-    project: &str,
-    end: &TopEnd,
-    err: &mut E,
-) -> Result<(), PutEnd>
+pub(crate) fn put_message<E: Sink>(project: &str, end: &TopEnd, err: &mut E) -> Result<(), PutEnd>
     ensures done { OnOk result
         (E.held err.new ≡ append_known (E.held err.old) (message_of project.now end.now)) }
     ensures refused { OnErr result

@@ -2,10 +2,9 @@
 use Rattle.std.proofs.Common.{◌∙◌, Err, ap, arith, inl, subst}
 use Rattle.std.specs.Prelude.{Some}
 use Rattle.outside.specs.Causes.{Rose}
-use Rattle.tool_top.specs.Summary.{Tells}
 use Rattle.tool_top.specs.Inside.Ends.{end_of}
 use Rattle.stand_tool.specs.Ends.{StandsFor}
-use Rattle.stand_tool.proofs.StandingFor.{ends-stop, tells-stop, not_usage_at_stop, outside_at_stop, ends-ran, not_usage, outside_of}
+use Rattle.stand_tool.proofs.StandingFor.{ends-stop, tells-stop, not_usage_at_stop, outside_at_stop, ends-ran, outside_of}
 use Rattle.stand_tool.proofs.top.attempt.Goals as goal
 
 pub returns-in-Ok-clause-ends : goal.returns-in-Ok-clause-ends
