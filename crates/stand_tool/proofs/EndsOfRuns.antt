@@ -1,5 +1,5 @@
 -- The ends of a run without backups are those that the command has one for.
-use Rattle.std.proofs.Common.{◌≡◌, ◌≢◌, ◌⊎◌, inl, inr, ℕ, List, Option, None, Some, Result, Ok, Err, IfSome, IsErrAnd, refl, sym, subst, ◌∙◌}
+use Rattle.std.proofs.Common.{◌≡◌, ℕ, List, Option, Result, Ok, Err, IsErrAnd, sym, ◌∙◌}
 use Rattle.outside.specs.Files.{Files}
 use Rattle.lift_run.specs.declared.ends.RunEnd.{RunEnd}
 use Rattle.lift_run.specs.declared.ends.RunEnd.TheVariants as ran
@@ -9,8 +9,6 @@ use Rattle.standing_pool.specs.Ends.{run_end_of}
 use Rattle.backups.specs.declared.running.Stopped.{Stopped}
 use Rattle.backups.specs.declared.starts.Slot.{Slot}
 use Rattle.tool_words.specs.declared.jobs.Job.{Job}
-use Rattle.tool_top.specs.declared.ends.Part.{Part}
-use Rattle.tool_top.specs.declared.ends.Part.TheVariants.{Out}
 use Rattle.tool_top.specs.declared.ends.End.{End}
 use Rattle.tool_top.specs.declared.ends.End.TheVariants as top
 use Rattle.tool_top.specs.declared.ends.Totals.{Totals}

@@ -1,6 +1,6 @@
 -- The ends of the command stand for those of the command that it runs.
 use Rattle.std.specs.Prelude.{true}
-use Rattle.std.proofs.Common.{◌≡◌, ◌≢◌, ◌⊎◌, ◌∙◌, inl, inr, ℕ, List, [], Option, None, Some, Result, Ok, Err, IfSome, IfOk, IsOkAnd, refl, ap, sym, subst}
+use Rattle.std.proofs.Common.{◌≡◌, ◌≢◌, ◌⊎◌, ◌∙◌, inl, inr, ℕ, List, Option, None, Some, Result, Ok, Err, IfSome, IfOk, IsOkAnd, refl, ap, sym, subst}
 use Rattle.outside.specs.Files.{Files}
 use Rattle.lift_core.specs.declared.Tool.TheVariants.{Graver}
 use Rattle.system_shape.specs.Shape.{tool_system}
@@ -21,14 +21,14 @@ use Rattle.tool_words.specs.declared.jobs.Job.{Job}
 use Rattle.tool_words.specs.declared.jobs.WordEnd.{WordEnd}
 use Rattle.tool_words.specs.declared.jobs.WordEnd.TheVariants as words
 use Rattle.tool_top.specs.declared.ends.Part.{Part}
-use Rattle.tool_top.specs.declared.ends.Part.TheVariants.{Mat, Out}
+use Rattle.tool_top.specs.declared.ends.Part.TheVariants.{Out}
 use Rattle.tool_top.specs.declared.ends.End.{End}
 use Rattle.tool_top.specs.declared.ends.End.TheVariants as top
 use Rattle.tool_top.specs.Plan.{Plan, input_for, project_of, part_of, answer_of, plan_of, resumes}
 use Rattle.tool_top.specs.Expected.{StartsAs, IsExpected, IsExpectedOr}
-use Rattle.tool_top.specs.Left.{Traces, HasWritten, Leaves}
+use Rattle.tool_top.specs.Left.{HasWritten}
 use Rattle.tool_top.specs.Summary.{Tells}
-use Rattle.tool_top.specs.Inside.Ends.{Ends, end_of}
+use Rattle.tool_top.specs.Inside.Ends.{Ends}
 use Rattle.tool_top.specs.Inside.Ends.{end_of_stop as tool_stop, end_of_words as tool_words}
 use Rattle.tool_top.proofs.Conclusions.{traces, EndsOver, ends-early, ends-carried, found-fresh, ends-words, all-written}
 use Rattle.tool_top.proofs.Solved.{all-solved}
@@ -36,7 +36,7 @@ use Rattle.stand_tool.specs.declared.request.Request.{Request}
 use Rattle.stand_tool.specs.declared.ends.TopEnd.{TopEnd}
 use Rattle.stand_tool.specs.declared.ends.TopEnd.TheVariants.{Done, Usage, Input, Run, Outside, Memory}
 use Rattle.stand_tool.specs.Requests.{is_plain, request_of, AsksFor}
-use Rattle.stand_tool.specs.Plans.{plan_for, job_in}
+use Rattle.stand_tool.specs.Plans.{plan_for}
 use Rattle.stand_tool.specs.Solved.{IsSolved}
 use Rattle.stand_tool.specs.Ends.{StandsFor, Stands, OnDone}
 use Rattle.stand_tool.specs.Inside.Ends.{Asks, end_of_stop, end_of_words}

@@ -12,6 +12,7 @@ ghost use Rattle.system_files.specs.Inputs.{IsShaped};
 ghost use Rattle.backups.specs.Starts.{Stored, StartComesTo};
 ghost use Rattle.backups.specs.declared.starts.Start.TheVariants.{Fresh};
 ghost use Rattle.backups.specs.Standing.{LeavesRun, IsSoundFrom, named_end};
+ghost use Rattle.standing_pool.specs.declared.ends.StandEnd.{StandEnd};
 ghost use Rattle.tool_words.specs.Jobs.{IsWithinLimits};
 ghost use Rattle.tool_top.specs.Plan.{plan_of};
 ghost use Rattle.tool_top.specs.Expected.{IsExpected, IsExpectedOr, StartsAs, limits_of};

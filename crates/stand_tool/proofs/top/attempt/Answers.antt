@@ -1,11 +1,10 @@
 -- A system that is not read is an end of its plan, and so is that of the run.
-use Rattle.std.proofs.Common.{◌∙◌, Err, ap, inl, subst}
+use Rattle.std.proofs.Common.{◌∙◌, Err, ap, arith, inl, subst}
 use Rattle.std.specs.Prelude.{Some}
 use Rattle.outside.specs.Causes.{Rose}
-use Rattle.tool_top.specs.Summary.{Tells}
 use Rattle.tool_top.specs.Inside.Ends.{end_of}
 use Rattle.stand_tool.specs.Ends.{StandsFor}
-use Rattle.stand_tool.proofs.StandingFor.{ends-stop, tells-stop, not_usage_at_stop, outside_at_stop, ends-ran, not_usage, outside_of}
+use Rattle.stand_tool.proofs.StandingFor.{ends-stop, tells-stop, not_usage_at_stop, outside_at_stop, ends-ran, outside_of}
 use Rattle.stand_tool.proofs.top.attempt.Goals as goal
 
 pub returns-in-Ok-clause-ends : goal.returns-in-Ok-clause-ends
@@ -41,3 +40,11 @@ pub returns-in-Err-clause-outside : goal.returns-in-Err-clause-outside
 returns-in-Err-clause-outside g c =
     outside_at_stop c.in-Err.stopped c.from.result _ c.from.ensures
     (λ source failed. inl (c.read_job.ensures.cause.failed source (c.in-Err.is ∙ ap Err failed)))
+
+pub returns-in-Ok-clause-outside : goal.returns-in-Ok-clause-outside
+returns-in-Ok-clause-outside g c =
+    outside_of (Rose (g.F.Folder.faults c.args.folder.now) (g.F.Folder.faults c.carry_out-outcome.new.folder)) (Rose
+    (g.O.Sink.faults c.args.out.now) (g.O.Sink.faults c.carry_out-outcome.new.out)) c.end_for.result
+    (end_of c.carry_out-outcome.result) (subst (StandsFor c.end_for.result) c.settle.ensures c.end_for.ensures)
+    (λ p is other. omega (arith, c.read_job.ensures.cause.later, c.carry_out-outcome.ensures.folder_fault p is other))
+    c.carry_out-outcome.ensures.out_fault

@@ -1,5 +1,4 @@
 -- Each way out of the run of a job is an end of its plan, and one that the command has an end for.
-use Rattle.std.proofs.Common.{refl}
 use Rattle.std.specs.Prelude.{Some}
 use Rattle.outside.specs.Causes.{Rose}
 use Rattle.lift_core.specs.Ends.{finished}
