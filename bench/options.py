@@ -3,10 +3,11 @@
 
     python3 bench/options.py --bin DIR --first="--workers=1" --second="--workers=4" [--only REGEX] [--repeat N] [--timeout S]
     python3 bench/options.py --bin DIR --second="--backup=100"
+    python3 bench/options.py --bin DIR --first="--workers=4" --second="--workers=4" --team
 
 The systems are those of bench/systems and bench/long. For each the least wall time and the least processor time (user and system) of N
 runs with either list, and the ratio of the second to the first; files and summary have to be the same bytes, restart files apart. A system
-that does not end in time with the first list is left out. The last line has the geometric means and the greatest ratios.
+that does not end in time with the first list is left out. With --team the second runs are those of `stand`. The last line has the geometric means and the greatest ratios.
 """
 import argparse
 import math
@@ -79,6 +80,7 @@ def main():
     parser.add_argument("--bin", required=True)
     parser.add_argument("--first", default="")
     parser.add_argument("--second", required=True)
+    parser.add_argument("--team", action="store_true")
     parser.add_argument("--only", default="")
     parser.add_argument("--repeat", type=int, default=3)
     parser.add_argument("--timeout", type=float, default=60)
@@ -88,13 +90,14 @@ def main():
     walls, processors, differ = [], [], 0
     for tool, name, paths in systems(asked.only):
         program = os.path.abspath(os.path.join(asked.bin, tool))
+        other, words = (os.path.abspath(os.path.join(asked.bin, "stand")), [tool]) if asked.team else (program, [])
         one, two = [], []
         for _ in range(asked.repeat):
             result = run(program, first, name, paths, asked.timeout)
             if result is None:
                 break
             one.append(result)
-            result = run(program, second, name, paths, 4 * asked.timeout)
+            result = run(other, words + second, name, paths, 4 * asked.timeout)
             if result is None:
                 break
             two.append(result)
