@@ -4,7 +4,7 @@ use Rattle.std.specs.Prelude.{ℤ, pos, ◌<ℤ◌, ◌≤ℤ◌, ◌+ℤ◌, �
 use Rattle.std.specs.List.{Contains, AllZip}
 use Rattle.std.proofs.lemmas.Bool.{cases_eq, cases_Bool}
 use Rattle.std.proofs.lemmas.Int.{ints}
-use Rattle.std.proofs.lemmas.List.{get_or-set_same, get_or-set_other}
+use Rattle.std.proofs.lemmas.List.{get_or-set_same, get_or-set_other, length-set}
 use Rattle.std.proofs.lemmas.List.Elements.{Contains-append_left, Contains-get_or, AllZip-get_or}
 use Rattle.int_vector.specs.Vectors.{◌⊑◌, IsWithin}
 use Rattle.int_vector.specs.Operations.{add, AreConformal}
@@ -15,7 +15,7 @@ use Rattle.lift_core.specs.Stages.{front, last}
 use Rattle.stage_store.specs.Signs.{IsSigned}
 use Rattle.stage_store.specs.Reaches.{entry_against, with_reach}
 use Rattle.stage_store.specs.Lines.{IsSaidLevel}
-use Rattle.stage_store.specs.Levels.{ReachesAt, MakesNone, BarsAt, BarsLine, ReachesLine, AreTrueTo, IsOnSide, IsAgainst, IsFull, IsRaised, IsNear, IsNearOr, IsBarLevel, IsReachLevel, is_plus}
+use Rattle.stage_store.specs.Levels.{ReachesAt, MakesNone, BarsAt, BarsLine, ReachesLine, AreTrue, AreTrueTo, IsOnSide, IsAgainst, IsFull, IsRaised, IsNear, IsNearOr, IsBarLevel, IsReachLevel, is_plus}
 use Rattle.stage_store.proofs.Reaches.{first_below, second_below}
 
 -- ---- single entries
@@ -186,6 +186,18 @@ bar_item S listed f k level h l small said m a b = subst₂ (λ (i n : ℕ). Bar
 
 pub reach_item : (f : List ℤ) (k level : ℕ) → IsReachLevel f (k / 2) (is_plus k) level → (l : ℕ) → l < 8 → IsSaidLevel false level l → (m : ℕ) → m / 8 ≡ k → m % 8 ≡ l → ReachesLine f m
 reach_item f k level h l small said m a b = subst₂ (λ (i n : ℕ). ReachesAt f (i / 2) (is_plus i) n) (sym a) (sym b) (h l said)
+
+-- an item anew
+pub true_again : (P : ℕ → Type 0) (upper : Bool) (levels : List ℕ) (k level : ℕ) → k < length levels → ((l : ℕ) → l < 8 → IsSaidLevel upper level l → (m : ℕ) → m / 8 ≡ k → m % 8 ≡ l → P m)
+    → AreTrue P upper levels → AreTrue P upper (set levels k level)
+true_again P upper levels k level inside here before = λ m small said. elim (cases_eq (m / 8) k) [
+  | inl e ↦
+      let at : get_or (set levels k level) (m / 8) 0 ≡ level = ap (λ n. get_or (set levels k level) n 0) e ∙ get_or-set_same levels k level 0 inside in
+      here (m % 8) (omega arith) (subst (λ n. IsSaidLevel upper n (m % 8)) at said) m e refl
+  | inr d ↦
+      let at : get_or (set levels k level) (m / 8) 0 ≡ get_or levels (m / 8) 0 = get_or-set_other levels k (m / 8) level 0 d in
+      before m (omega (arith, small, length-set levels k level)) (subst (λ n. IsSaidLevel upper n (m % 8)) at said)
+]
 
 -- ---- more rows
 pub bars_stay : (S : LinearSystem) (listed new : List (List ℤ)) (f : List ℤ) (j : ℕ) (positive : Bool) (level : ℕ) → BarsAt S listed f j positive level → BarsAt S (listed ++ new) f j positive level

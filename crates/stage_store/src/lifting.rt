@@ -119,7 +119,7 @@ pub fn extended(
 fn copy_with(alloc: Global, vector: &[i64], more: &[i64]) -> Result<Vec<i64>, AllocError>
     ensures { IfOk result (λ copy. copy.items ≡ vector.now ++ more.now) }
 {
-    let mut copy = Vec::with_capacity(alloc, vector.len())?;
+    let mut copy = Vec::with_capacity(alloc, vector.len() + more.len())?;
     copy.extend_from_slice(vector)?;
     copy.extend_from_slice(more)?;
     Ok(copy)

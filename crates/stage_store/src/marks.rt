@@ -230,7 +230,21 @@ fn is_full(cap: Option<u64>, entry: i64) -> bool
     }
 }
 
-/// The level from which on a row bars an item.
+/// The level from which on a row bars an item, without rows near it: all, where its entry is against the item or at the
+/// cap, or none.
+fn plain_level(system: &System, listed: &Pool, row: &[i64], column: usize, positive: bool) -> u8
+    requires column { column < width system.now.equations }
+    requires row { length row.now ≡ width system.now.equations + 1 }
+    ensures { IsBarLevel system.now.equations listed.now.rows row.now column positive result }
+{
+    system.keeps();
+    if is_against(row[column], positive) || is_full(system.cap(column as u32 + 1), row[column]) {
+        return 0;
+    }
+    LEVELS
+}
+
+/// The level from which on a row bars an item, with rows near it.
 fn bar_level(
     system: &System,
     listed: &Pool,
@@ -238,7 +252,6 @@ fn bar_level(
     row: &[i64],
     column: usize,
     positive: bool,
-    near: bool,
     probe: &mut [i64],
 ) -> u8
     requires indexed { HoldsRows tree.now listed.now }
@@ -250,11 +263,11 @@ fn bar_level(
     ensures bars { IsBarLevel system.now.equations listed.now.rows row.now column positive result }
 {
     system.keeps();
-    if is_against(row[column], positive) || is_full(system.cap(column as u32 + 1), row[column]) {
+    if is_against(row[column], positive) {
         return 0;
     }
     // Where no row has an entry, nothing is gained by a search.
-    if !near || is_one_sided(system.sign(column as u32 + 1), positive) {
+    if is_one_sided(system.sign(column as u32 + 1), positive) {
         return LEVELS;
     }
     near_level(listed, tree, row, column, positive, probe)
@@ -278,15 +291,57 @@ fn reach_level(row: &[i64], column: usize, positive: bool) -> u8
     LEVELS
 }
 
-/// Writes from which level on a row bars each item. Rows near it are looked for only where that is wanted, and is worth it
-/// for the rows of a table that are left.
-pub fn fill_bars(
+/// Writes from which level on a row bars each item, without rows near it.
+pub fn fill_bars(system: &System, listed: &Pool, row: &[i64], bars: &mut [u8])
+    requires row { length row.now ≡ width system.now.equations + 1 }
+    requires bars { length bars.old ≡ 2 * width system.now.equations }
+    ensures length { length bars.new ≡ length bars.old }
+    ensures bars { AreTrue (BarsLine system.now.equations listed.now.rows row.now) true bars.new }
+{
+    for k in 0..bars.len() {
+        bars[k] = plain_level(system, listed, row, k / 2, k % 2 == 0);
+    }
+}
+
+/// Writes from which level on a row bars an item, with rows near it, where that is worth it for the rows of a table that
+/// are left.
+fn lower_bar(
     system: &System,
     listed: &Pool,
     tree: &Tree,
     row: &[i64],
     table: &Table,
-    near: bool,
+    item: usize,
+    left: &mut Left,
+    probe: &mut [i64],
+    bars: &mut [u8],
+)
+    requires indexed { HoldsRows tree.now listed.now }
+    requires item { item < length bars.old }
+    requires row { length row.now ≡ width system.now.equations + 1 }
+    requires lengths { length row.now ≡ length probe.old }
+    requires width { listed.now.width ≡ length row.now }
+    requires count { length bars.old ≡ 2 * width system.now.equations }
+    requires bars { AreTrue (BarsLine system.now.equations listed.now.rows row.now) true bars.old }
+    ensures probe { length probe.new ≡ length probe.old }
+    ensures length { length bars.new ≡ length bars.old }
+    ensures bars { AreTrue (BarsLine system.now.equations listed.now.rows row.now) true bars.new }
+{
+    if bars[item] == 0 || !left.wants(table, item) {
+        return;
+    }
+    let level = bar_level(system, listed, tree, row, item / 2, item % 2 == 0, probe);
+    bars[item] = level;
+    left.take_out(table, item, level);
+}
+
+/// The same for each item.
+pub fn lower_bars(
+    system: &System,
+    listed: &Pool,
+    tree: &Tree,
+    row: &[i64],
+    table: &Table,
     left: &mut Left,
     probe: &mut [i64],
     bars: &mut [u8],
@@ -295,18 +350,14 @@ pub fn fill_bars(
     requires row { length row.now ≡ width system.now.equations + 1 }
     requires lengths { length row.now ≡ length probe.old }
     requires width { listed.now.width ≡ length row.now }
-    requires bars { length bars.old ≡ 2 * width system.now.equations }
+    requires count { length bars.old ≡ 2 * width system.now.equations }
+    requires bars { AreTrue (BarsLine system.now.equations listed.now.rows row.now) true bars.old }
     ensures probe { length probe.new ≡ length probe.old }
     ensures length { length bars.new ≡ length bars.old }
     ensures bars { AreTrue (BarsLine system.now.equations listed.now.rows row.now) true bars.new }
 {
     for k in 0..bars.len() {
-        let looks = near && bars[k] > 0 && left.wants(table, k);
-        let level = bar_level(system, listed, tree, row, k / 2, k % 2 == 0, looks, probe);
-        bars[k] = level;
-        if looks {
-            left.take_out(table, k, level);
-        }
+        lower_bar(system, listed, tree, row, table, k, left, probe, bars);
     }
 }
 

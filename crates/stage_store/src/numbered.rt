@@ -21,7 +21,7 @@ use std::mem;
 const BLOCK: u64 = 256;
 
 /// How many reducers are remembered.
-const REDUCERS: usize = 16;
+const REDUCERS: usize = 4;
 
 /// How many places of sums that were found are remembered.
 const FOUND: usize = 4096;

@@ -10,7 +10,7 @@ ghost use Rattle.stage_store.specs.Sieve.{AreSized, IsRoom, AreAsked};
 
 use crate::left::Left;
 use crate::lines::take_said;
-use crate::marks::{fill_bars, fill_reached};
+use crate::marks::{fill_bars, fill_reached, lower_bars};
 use crate::mirror::fill_turned;
 use crate::table::Table;
 use lift_core::System;
@@ -73,7 +73,11 @@ impl Room {
         ensures room { IsRoom system.now.equations self.new }
         ensures asked { OnOk result (AreAsked system.now.equations listed.now.rows (row_at listed.now.rows i) self.new) }
     {
-        self.ask_row(system, listed, tree, i, table, false)?;
+        let row = listed.row(RowId(i));
+        fill_bars(system, listed, row, &mut self.bars);
+        fill_reached(row, &mut self.reached);
+        take_said(false, &self.reached, &mut self.bar_reads)?;
+        take_said(true, &self.bars, &mut self.reach_reads)?;
         let width = system.width();
         let count = 16 * width as usize;
         let left = self
@@ -82,40 +86,16 @@ impl Room {
         if left <= u64::from(width) {
             return Ok(());
         }
-        self.ask_row(system, listed, tree, i, table, true)
-    }
-
-    /// Asks a row, and for the rows near it where that is wanted: the rows of the table that are left are known then.
-    fn ask_row(
-        &mut self,
-        system: &System,
-        listed: &Pool,
-        tree: &Tree,
-        i: u32,
-        table: &Table,
-        near: bool,
-    ) -> Result<(), AllocError>
-        requires indexed { HoldsRows tree.now listed.now }
-        requires width { listed.now.width ≡ width system.now.equations + 1 }
-        requires row { i < length listed.now.rows }
-        requires room { IsRoom system.now.equations self.old }
-        ensures room { IsRoom system.now.equations self.new }
-        ensures asked { OnOk result (AreAsked system.now.equations listed.now.rows (row_at listed.now.rows i) self.new) }
-    {
-        let row = listed.row(RowId(i));
-        fill_bars(
+        lower_bars(
             system,
             listed,
             tree,
             row,
             table,
-            near,
             &mut self.left,
             &mut self.probe,
             &mut self.bars,
         );
-        fill_reached(row, &mut self.reached);
-        take_said(false, &self.reached, &mut self.bar_reads)?;
         take_said(true, &self.bars, &mut self.reach_reads)
     }
 

@@ -247,7 +247,7 @@ impl Stage {
             minus: Vec::new(alloc),
             sieve: Sieve::new(alloc)?,
             following: Following::unknown(),
-            tally: Tally::new(alloc)?,
+            tally: Tally::new(alloc),
             ahead: Opened::unknown(alloc),
         };
         stage.prepare()?;
@@ -291,7 +291,7 @@ impl Stage {
             waited: 0,
             sieve: Sieve::new(alloc)?,
             following: Following::unknown(),
-            tally: Tally::new(alloc)?,
+            tally: Tally::new(alloc),
             ahead: Opened::unknown(alloc),
         };
         stage.prepare()?;

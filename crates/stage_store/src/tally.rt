@@ -1,12 +1,12 @@
 //! The numbers of pairs of some norms in a row, so that the next norm that has pairs is found by looking at a few numbers.
 
-ghost use Rattle.std.specs.Prelude.{◌≡◌, ◌+◌, ◌-◌, ◌*◌, ◌<◌, ◌≤◌, ◌^◌, ◌⊎◌, ℕ, length, IfSome, IfOk, MatchOption};
+ghost use Rattle.std.specs.Prelude.{◌≡◌, ◌+◌, ◌-◌, ◌*◌, ◌<◌, ◌≤◌, ◌^◌, ◌⊎◌, ℕ, length, IfSome, MatchOption};
 ghost use Rattle.std.specs.List.Sorted.{IsStrictlySortedBy};
 ghost use Rattle.stage_store.specs.Classes.{class_cmp, norm_at};
 ghost use Rattle.stage_store.specs.Tallies.{IsInRange, IsClear, HasRaised, HasGained, IsTally, IsNoted, IsNextNoted};
 
 use crate::class::{Class, place_from, place_next};
-use std::alloc::{AllocError, Global};
+use std::alloc::Global;
 
 /// The most norms whose pairs are counted.
 const MOST: u64 = 65_536;
@@ -23,16 +23,16 @@ pub struct Tally {
 }
 
 impl Tally {
-    /// No norm is counted yet. All the memory that is ever needed is taken here.
-    pub fn new(alloc: Global) -> Result<Tally, AllocError>
-        ensures range { IfOk result IsInRange }
-        ensures empty { IfOk result (λ t. t.span ≡ 0) }
+    /// No norm is counted yet.
+    pub fn new(alloc: Global) -> Tally
+        ensures range { IsInRange result }
+        ensures empty { result.span ≡ 0 }
     {
-        Ok(Tally {
+        Tally {
             base: 0,
             span: 0,
-            counts: vec![in alloc; 0; MOST as usize]?,
-        })
+            counts: Vec::new(alloc),
+        }
     }
 
     /// The place of a norm, where it is counted.
@@ -131,7 +131,7 @@ impl Tally {
     }
 
     /// The norms from `base` on are counted, of which none has pairs yet. More of them than the last time where that
-    /// paid: where the norm comes soon after them.
+    /// paid: where the norm comes soon after them. As few as there is memory for.
     fn clear(&mut self, base: u64)
         requires range { IsInRange self.old }
         requires small { base < 2 ^ 63 }
@@ -144,7 +144,9 @@ impl Tally {
         } else {
             self.span / 2
         };
-        let span = wanted.max(FEWEST).min(MOST).min(self.counts.len() as u64);
+        let count = wanted.max(FEWEST).min(MOST);
+        fill(&mut self.counts, count as usize);
+        let span = count.min(self.counts.len() as u64);
         self.base = base;
         self.span = span;
         for i in 0..span as usize {
@@ -166,6 +168,15 @@ impl Tally {
             let least = self.base.saturating_sub(class.norm());
             near = place_next(minus, least, near, plus.len());
             self.add_from(minus, class, near);
+        }
+    }
+}
+
+/// Zeros behind some numbers, up to so many; fewer where memory is refused.
+fn fill(numbers: &mut Vec<u64>, len: usize) {
+    while numbers.len() < len {
+        if numbers.push(0).is_err() {
+            return;
         }
     }
 }

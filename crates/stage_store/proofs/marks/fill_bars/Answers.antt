@@ -7,8 +7,7 @@ use Rattle.stage_store.proofs.marks.fill_bars.Goals as goal
 
 pub loop-k-preserved : goal.loop-k-preserved
 loop-k-preserved c = record {
-  probe = c.bar_level-level.ensures.length ∙ c.loop-k.invariant.probe;
-  count = length-set c.loop-k.bars c.loop-k.k c.bar_level-level.result ∙ c.loop-k.invariant.count;
-  bars = true_more (BarsLine c.args.system.now.equations c.args.listed.now.rows c.args.row.now) true c.loop-k.bars c.loop-k.k c.bar_level-level.result (omega (arith, c.loop-k-test.true, c.loop-k.invariant.count))
-      (bar_item c.args.system.now.equations c.args.listed.now.rows c.args.row.now c.loop-k.k c.bar_level-level.result c.bar_level-level.ensures.bars) c.loop-k.invariant.bars;
+  count = length-set c.loop-k.bars c.loop-k.k c.plain_level.result ∙ c.loop-k.invariant.count;
+  bars = true_more (BarsLine c.args.system.now.equations c.args.listed.now.rows c.args.row.now) true c.loop-k.bars c.loop-k.k c.plain_level.result (omega (arith, c.loop-k-test.true, c.loop-k.invariant.count))
+      (bar_item c.args.system.now.equations c.args.listed.now.rows c.args.row.now c.loop-k.k c.plain_level.result c.plain_level.ensures) c.loop-k.invariant.bars;
 }

@@ -4,7 +4,6 @@ use Rattle.stage_store.proofs.marks.fill_bars.Given as goal
 
 abbrev pub invariant-loop-k : goal.invariant-loop-k
 invariant-loop-k l = record {
-  probe : length l.probe ≡ length l.fn.probe;
   count : length l.bars ≡ length l.fn.bars;
   bars : AreTrueTo l.k (BarsLine l.system.equations l.listed.rows l.row) true l.bars;
 }
