@@ -32,6 +32,7 @@ use crate::numbered::{Hints, gather_all, take_opened, take_range};
 use crate::opened::{Halves, OpenPair, Opened, open_norm};
 use crate::order::in_order;
 use crate::rebuilding::{classes_of, empty_tree, tree_of};
+use crate::side::Side;
 use crate::sieve::Sieve;
 use crate::tally::Tally;
 use int_vector::{Visits, add_into, conformal, norm};
@@ -184,7 +185,8 @@ impl Model for Stage {
       before = s.before;
       listed = s.listed.rows;
       waiting = drop s.waited s.waiting.rows;
-    }) s.listed s.tree s.waiting s.waited s.used s.plus.items s.minus.items s.sieve s.following s.tally s.ahead };
+    }) s.listed s.tree s.waiting s.waited s.used s.plus.items s.minus.items s.sieve s.following
+        s.tally s.ahead };
 }
 
 impl Stage {
@@ -284,8 +286,8 @@ impl Stage {
             before,
             used,
             tree: tree_of(alloc, tool, &listed)?,
-            plus: classes_of(alloc, &listed, true)?,
-            minus: classes_of(alloc, &listed, false)?,
+            plus: classes_of(alloc, &listed, Side::Plus)?,
+            minus: classes_of(alloc, &listed, Side::Minus)?,
             listed,
             waiting,
             waited: 0,
@@ -305,8 +307,13 @@ impl Stage {
         ensures defined { IsDefined self → IfOk result IsLiftedDefined }
         ensures sound { IfOk result IsSound }
     {
-        let solutions = kept_solutions(self.alloc, &self.listed)?;
         let defined = self.ahead.defined;
+        // What is not handed on goes as soon as it can: the lists are what takes most memory.
+        drop(self.waiting);
+        drop(self.tree);
+        drop(self.sieve);
+        let solutions = kept_solutions(self.alloc, &self.listed)?;
+        drop(self.listed);
         match Stage::start(
             self.alloc,
             self.system,
@@ -677,8 +684,8 @@ impl Stage {
             return Err(PublishEnd::Rows { count });
         }
         Ok(Growth {
-            plus: class_of(self.alloc, &rows, self.listed.len(), closed.norm, true)?,
-            minus: class_of(self.alloc, &rows, self.listed.len(), closed.norm, false)?,
+            plus: class_of(self.alloc, &rows, self.listed.len(), closed.norm, Side::Plus)?,
+            minus: class_of(self.alloc, &rows, self.listed.len(), closed.norm, Side::Minus)?,
             pairs: self.pairs_at(closed.norm),
             rows,
             taken,
