@@ -103,13 +103,7 @@ impl Model for Core {
 
     ghost Value = { CoreState };
 
-    ghost view = { λ c. record {
-        blocks = c.blocks;
-        next = c.next;
-        held = c.held.items;
-        book = c.book;
-        closed = c.closed;
-    } };
+    ghost view = { λ c. record { blocks = c.blocks; next = c.next; held = c.held.items; book = c.book; closed = c.closed } };
 }
 
 impl Core {

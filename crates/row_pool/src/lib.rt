@@ -32,11 +32,7 @@ impl Model for Pool {
 
     ghost Value = { PoolValue };
 
-    ghost view = { λ p. record {
-        width = p.width;
-        rows = rows_of p.count p.width p.cells.items;
-        spare = p.spare;
-    } };
+    ghost view = { λ p. record { width = p.width; rows = rows_of p.count p.width p.cells.items; spare = p.spare } };
 
     ghost invariant = { λ p. IsPool p.width p.count p.spare (vec_capacity p.cells) p.cells.items };
 }
