@@ -21,5 +21,5 @@ returns-then-has_sign-clause-upto c =
 pub returns-then-has_sign-2-clause-upto : goal.returns-then-has_sign-2-clause-upto
 returns-then-has_sign-2-clause-upto c =
     let sign : has_negative_last (row_at c.args.listed.now.rows c.args.i) ≡ true = ap has_negative_last (sym c.row-2.ensures.row) ∙ sym c.has_sign-2.ensures ∙ c.if-has_sign-2.true in
-    on_ok_under c.args.system.now.equations c.args.listed.now.rows c.args.norm c.args.i c.args.self.now (record { rows = c.args.self.now.rows; reaches = c.args.self.now.reaches; mirror = c.args.self.now.mirror; plus = c.args.self.now.plus; minus = c.sift_into-2.new.own; shelves = c.sift_into-2.new.shelves })
-    c.requires.row c.requires.upto c.sift_into-2.ensures.stay c.sift_into-2.ensures.count refl refl c.sift_into-2.result sign refl c.sift_into-2.ensures.sifted c.sift_into-2.ensures.own
+    on_ok_under c.args.system.now.equations c.args.listed.now.rows c.args.norm c.args.i c.args.self.now (record { rows = c.args.self.now.rows; reaches = c.args.self.now.reaches; mirror = c.args.self.now.mirror; plus = c.args.self.now.plus; minus = c.sift_into-then-has_sign-2.new.own; shelves = c.sift_into-then-has_sign-2.new.shelves })
+    c.requires.row c.requires.upto c.sift_into-then-has_sign-2.ensures.stay c.sift_into-then-has_sign-2.ensures.count refl refl c.sift_into-then-has_sign-2.result sign refl c.sift_into-then-has_sign-2.ensures.sifted c.sift_into-then-has_sign-2.ensures.own
