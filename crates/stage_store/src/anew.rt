@@ -169,7 +169,15 @@ fn sift_couple_anew(
         reach_reads,
     )?;
     let width = system.width() as usize;
-    keep_rows(shelves, listed, width, &[], Side::Plus, plus.ids[k], minus.ids[k])
+    keep_rows(
+        shelves,
+        listed,
+        width,
+        &[],
+        Side::Plus,
+        plus.ids[k],
+        minus.ids[k],
+    )
 }
 
 /// Sifts the pairs of the rows of two tables anew, where the rows of one are the negatives of those of the other: of a pair

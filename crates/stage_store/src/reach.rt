@@ -236,14 +236,7 @@ fn are_far(listed: &Pool, width: usize, reaches: &[u64], f: u32, g: u32) -> bool
 }
 
 /// Whether the pair of a row and another is known to have no irreducible sum, by the reaches of the two.
-pub fn is_passed(
-    listed: &Pool,
-    width: usize,
-    reaches: &[u64],
-    side: Side,
-    i: u32,
-    j: u32,
-) -> bool
+pub fn is_passed(listed: &Pool, width: usize, reaches: &[u64], side: Side, i: u32, j: u32) -> bool
     requires width { listed.now.width ≡ width + 1 }
     requires reaches { AreReaches listed.now.rows reaches.now }
     requires count { length reaches.now ≤ length listed.now.rows }

@@ -629,7 +629,15 @@ impl Sieve {
             &room.bar_reads,
             &room.reach_reads,
         )?;
-        keep_rows(&mut self.shelves, listed, width, &[], Side::Plus, i, negative)?;
+        keep_rows(
+            &mut self.shelves,
+            listed,
+            width,
+            &[],
+            Side::Plus,
+            i,
+            negative,
+        )?;
         self.plus.push(alloc, i, own, &room.bars, &room.reached)?;
         room.turn(system, listed, negative);
         self.minus

@@ -684,8 +684,20 @@ impl Stage {
             return Err(PublishEnd::Rows { count });
         }
         Ok(Growth {
-            plus: class_of(self.alloc, &rows, self.listed.len(), closed.norm, Side::Plus)?,
-            minus: class_of(self.alloc, &rows, self.listed.len(), closed.norm, Side::Minus)?,
+            plus: class_of(
+                self.alloc,
+                &rows,
+                self.listed.len(),
+                closed.norm,
+                Side::Plus,
+            )?,
+            minus: class_of(
+                self.alloc,
+                &rows,
+                self.listed.len(),
+                closed.norm,
+                Side::Minus,
+            )?,
             pairs: self.pairs_at(closed.norm),
             rows,
             taken,

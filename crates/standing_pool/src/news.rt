@@ -29,11 +29,11 @@ impl Model for Published {
     ghost Value = { NewsValue };
 
     ghost view = { λ p. record {
-        system = (arc_value p.system);
-        number = p.number;
-        closed = p.before;
-        norm = p.closed.norm;
-        rows = p.closed.rows;
+      system = (arc_value p.system);
+      number = p.number;
+      closed = p.before;
+      norm = p.closed.norm;
+      rows = p.closed.rows;
     } };
 
     ghost invariant = { λ p.

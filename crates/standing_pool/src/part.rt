@@ -33,13 +33,13 @@ impl Model for PartRows {
     ghost Value = { PartValue };
 
     ghost view = { λ p. record {
-        system = (arc_value p.system);
-        number = p.number;
-        closed = p.closed;
-        norm = p.norm;
-        part = p.part;
-        parts = p.parts;
-        rows = p.rows;
+      system = (arc_value p.system);
+      number = p.number;
+      closed = p.closed;
+      norm = p.norm;
+      part = p.part;
+      parts = p.parts;
+      rows = p.rows;
     } };
 
     ghost invariant = { λ p.
