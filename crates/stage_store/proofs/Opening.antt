@@ -10,7 +10,7 @@ use Rattle.std.proofs.lemmas.List.Sums.{sum_by_more_le}
 use Rattle.lift_core.proofs.Lists.{contains_head, contains_tail, contains_nothing}
 use Rattle.lift_core.proofs.Orders.{from_map}
 use Rattle.stage_store.specs.Classes.{ClassValue, class_cmp, norm_at, ids_at, part_size, id_part, ids_of}
-use Rattle.std.proofs.Common.{Bool, true, Result, Err, subst₂}
+use Rattle.std.proofs.Common.{Bool, Result, Err, subst₂}
 use Rattle.std.specs.Prelude.{Option, Some, None, MatchOption, MatchResult, ◌==◌}
 use Rattle.std.specs.Ordering.{nat_cmp}
 use Rattle.std.specs.List.Sorted.{IsBinarySearchResult, IsPermutation}

@@ -1,6 +1,6 @@
 -- The lines in which the row is marked tell what it bars and reaches, so they are read against the other table as for a
 -- new row.
-use Rattle.std.proofs.Common.{◌≡◌, ◌∙◌, ◌*◌, ◌/◌, ◌<◌, ℕ, List, length, get_or, sym, subst, subst₂, arith, true}
+use Rattle.std.proofs.Common.{◌≡◌, ◌∙◌, ◌*◌, ◌/◌, ◌<◌, ℕ, List, length, get_or, sym, subst, subst₂, arith}
 use Rattle.std.specs.Prelude.{OnOk}
 use Rattle.std.proofs.lemmas.List.{get_or_default}
 use Rattle.lift_core.specs.ToolSystems.{width}

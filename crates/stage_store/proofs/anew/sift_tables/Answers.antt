@@ -1,5 +1,5 @@
 -- The rows of one table are sifted with all of the other, one after another: each pair has a row in either table.
-use Rattle.std.proofs.Common.{[], length, slice_index_or, arith, true}
+use Rattle.std.proofs.Common.{[], length, slice_index_or, arith}
 use borrow.Author.Count.{below_more}
 use Rattle.stage_store.specs.Sieve.{AreSiftedBy}
 use Rattle.stage_store.proofs.Sifting.{both_stay, stay_through, sifted_anew}

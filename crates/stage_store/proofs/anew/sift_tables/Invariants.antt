@@ -1,5 +1,5 @@
 -- The pairs of the first k rows of one table are sifted, and what was kept stays.
-use Rattle.std.proofs.Common.{◌≡◌, ◌<◌, ℕ, [], length, slice_index_or, true}
+use Rattle.std.proofs.Common.{◌≡◌, ◌<◌, ℕ, [], length, slice_index_or}
 use Rattle.stage_store.specs.Sieve.{AreSiftedBy}
 use Rattle.stage_store.specs.Shelves.{Stay}
 use Rattle.stage_store.proofs.anew.sift_tables.Given as goal

@@ -5,7 +5,7 @@ use Rattle.lift_core.specs.ToolSystems.{width}
 use Rattle.lift_core.specs.Stages.{stage_norm}
 use Rattle.stage_store.specs.Classes.{row_at, sign_test, other_side}
 use Rattle.stage_store.specs.Levels.{AreTrue, BarsLine, ReachesLine}
-use Rattle.stage_store.specs.Sieve.{AreSized, AreGroups, IsTable, IsBefore}
+use Rattle.stage_store.specs.Sieve.{AreSized, AreGroups, IsBefore}
 use Rattle.stage_store.proofs.Tables.{inside_table, on_ok_table, on_ok_groups, before_more, before_cases}
 use Rattle.stage_store.proofs.sieve.sift_into.Goals as goal
 

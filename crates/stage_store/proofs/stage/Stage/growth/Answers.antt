@@ -1,7 +1,7 @@
 -- The rows that wait for the norm are the next ones of the waiting list, and merged with the sums they are all rows
 -- that the norm lists; where they are too many, that is the answer.
 use Rattle.std.proofs.Common.{◌≡◌, ◌∙◌, sym, arith, ap, subst, ℕ, ◌-◌, ◌++◌, length, take, drop, length-append}
-use Rattle.std.specs.Prelude.{List, ℤ, true, false}
+use Rattle.std.specs.Prelude.{List, ℤ}
 use Rattle.std.specs.List.Sorted.{IsStrictlySortedBy}
 use Rattle.std.proofs.lemmas.List.{drop-take}
 use Rattle.int_vector.specs.Vectors.{lex_cmp}
