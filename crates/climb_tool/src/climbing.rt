@@ -57,8 +57,8 @@ fn step(problem: &Problem, path: &mut Path, candidate: Candidate<'_>) -> Result<
     requires few { path.old.count ≤ 65535 }
     requires vector { length candidate.vector.now ≡ problem.now.mat.cols }
     requires range { All InRange candidate.vector.now }
-    requires first { IsFirstToHelp problem.now.upper.cells problem.now.cost.cells path.old.point.items
-        (candidates (rows_in problem.now.set)) (vector_of candidate) }
+    requires first { IsFirstToHelp problem.now.upper.cells problem.now.cost.cells
+        path.old.point.items (candidates (rows_in problem.now.set)) (vector_of candidate) }
     ensures walked { OnOk result (IsWalked problem.now path.new) }
     ensures count { OnOk result (path.new.count ≡ path.old.count + 1) }
 {

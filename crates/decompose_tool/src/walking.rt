@@ -264,8 +264,8 @@ fn start(alloc: Global, shaped: &Shaped, point: &Grid) -> Result<Walk, AllocErro
     requires read { IsRead shaped.now }
     requires width { point.now.cols ≡ shaped.now.input.mat.cols }
     requires row { point.now.rows ≡ 1 }
-    requires sound { AllByRecursion (IsSoundRow (user_of shaped.now) (times_of shaped.now.system.tool))
-        (rows_in point.now) }
+    requires sound { AllByRecursion
+        (IsSoundRow (user_of shaped.now) (times_of shaped.now.system.tool)) (rows_in point.now) }
     ensures start { IfOk result (IsAllLeft
         (full_vector (user_of shaped.now) (times_of shaped.now.system.tool)
         (slice_index_or (rows_in point.now) 0 []))) }

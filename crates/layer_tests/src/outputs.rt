@@ -26,7 +26,8 @@ enum Input {
 fn push_two(rows: &mut Pool, new: [[i64; 3]; 2]) -> Result<(), AllocError>
     requires rows { (rows.old.width ≡ 3) × (length rows.old.rows ≤ 8) }
     requires range { All (All InRange) new }
-    ensures { OnOk result ((rows.new.width ≡ 3) × (length rows.new.rows ≡ length rows.old.rows + 2)) }
+    ensures { OnOk result ((rows.new.width ≡ 3)
+        × (length rows.new.rows ≡ length rows.old.rows + 2)) }
 {
     rows.reserve(2)?;
     rows.push(&new[0]);

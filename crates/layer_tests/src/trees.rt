@@ -13,7 +13,8 @@ use std::test::Fail;
 // Files all rows of a pool.
 fn whole_tree(alloc: Global, pool: &Pool) -> Result<Tree, AllocError>
     requires { pool.now.width ≤ 130 }
-    ensures { IfOk result (λ tree. Fits tree pool.now × (length (places_of tree) ≡ length pool.now.rows)) }
+    ensures { IfOk result
+        (λ tree. Fits tree pool.now × (length (places_of tree) ≡ length pool.now.rows)) }
 {
     let mut tree = Tree::new(alloc, pool.width());
     for place in 0..pool.len() {

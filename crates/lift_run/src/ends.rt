@@ -37,7 +37,8 @@ impl Limits {
 impl Default for Limits {
     ghost use Rattle.lift_run.specs.declared.ends.TheConstants.Limits.{DEFAULT_PAIRS, DEFAULT_ROWS, DEFAULT_WORKERS};
 
-    ghost is_default = { λ l. (l.pairs ≡ DEFAULT_PAIRS) × (l.rows ≡ DEFAULT_ROWS) × (l.workers ≡ DEFAULT_WORKERS) };
+    ghost is_default = { λ l. (l.pairs ≡ DEFAULT_PAIRS) × (l.rows ≡ DEFAULT_ROWS)
+        × (l.workers ≡ DEFAULT_WORKERS) };
 
     fn default() -> Limits {
         Limits {

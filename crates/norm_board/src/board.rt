@@ -36,7 +36,8 @@ impl<'s> Model for Board<'s> {
 
     ghost view = { λ b. record { table = b.table.shared.table_id; plan = b.plan } };
 
-    ghost invariant = { λ b. BoardOk b.table.shared.key b.plan b.base.now b.table.shared.table_id b.pairs };
+    ghost invariant = { λ b.
+        BoardOk b.table.shared.key b.plan b.base.now b.table.shared.table_id b.pairs };
 }
 
 impl<'s> Board<'s> {

@@ -31,7 +31,13 @@ impl Model for Book {
 
     ghost Value = { BookValue };
 
-    ghost view = { λ b. record { stage = b.stage.value; norm = b.norm; blocks = b.blocks.numbers; rows = b.rows.rows; room = b.room } };
+    ghost view = { λ b. record {
+      stage = b.stage.value;
+      norm = b.norm;
+      blocks = b.blocks.numbers;
+      rows = b.rows.rows;
+      room = b.room;
+    } };
 
     ghost invariant = { λ b. BookOk b.stage.value b.norm b.blocks b.rows b.room };
 }

@@ -27,7 +27,11 @@ impl Model for Runs {
 
     ghost Value = { RunsValue };
 
-    ghost view = { λ r. record { numbers = numbers_of r.runs.items; count = vec_len r.runs; spare = vec_capacity r.runs - vec_len r.runs } };
+    ghost view = { λ r. record {
+      numbers = numbers_of r.runs.items;
+      count = vec_len r.runs;
+      spare = vec_capacity r.runs - vec_len r.runs;
+    } };
 
     ghost invariant = { λ r. AllByRecursion IsRun r.runs.items };
 }

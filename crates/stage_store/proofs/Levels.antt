@@ -14,7 +14,7 @@ use Rattle.lift_core.specs.Columns.{IsCapped}
 use Rattle.lift_core.specs.Stages.{front, last}
 use Rattle.stage_store.specs.Signs.{IsSigned}
 use Rattle.stage_store.specs.Reaches.{entry_against, with_reach}
-use Rattle.stage_store.specs.Lines.{IsSaidLevel}
+use Rattle.stage_store.specs.Lines.{IsSaid, IsSaidLevel}
 use Rattle.stage_store.specs.Levels.{ReachesAt, MakesNone, BarsAt, BarsLine, ReachesLine, AreTrue, AreTrueTo, IsOnSide, IsAgainst, IsFull, IsRaised, IsNear, IsNearOr, IsBarLevel, IsReachLevel, is_plus}
 use Rattle.stage_store.proofs.Reaches.{first_below, second_below}
 
@@ -168,17 +168,26 @@ level_near S listed f j positive level inside h = λ l small up. bars_above S li
 pub reach_lower : (v : List ℤ) (j : ℕ) (positive : Bool) (level : ℕ) → ((l : ℕ) → l < level → IsSigned positive (get_or v j (pos 0)) × (2 ^ l ≤ nat_abs (get_or v j (pos 0)))) → IsReachLevel v j positive level
 reach_lower v j positive level h = λ l small. let r = h l small in record { signed = r.0; amount = r.1 }
 
--- ---- one item more
-pub true_more : (P : ℕ → Type 0) (upper : Bool) (levels : List ℕ) (k level : ℕ) → k < length levels → ((l : ℕ) → l < 8 → IsSaidLevel upper level l → (m : ℕ) → m / 8 ≡ k → m % 8 ≡ l → P m)
-    → AreTrueTo k P upper levels → AreTrueTo (k + 1) P upper (set levels k level)
-true_more P upper levels k level inside here before = λ m small said. elim (cases_eq (m / 8) k) [
-  | inl e ↦
-      let at : get_or (set levels k level) (m / 8) 0 ≡ level = ap (λ n. get_or (set levels k level) n 0) e ∙ get_or-set_same levels k level 0 inside in
-      here (m % 8) (omega arith) (subst (λ n. IsSaidLevel upper n (m % 8)) at said) m e refl
-  | inr d ↦
-      let at : get_or (set levels k level) (m / 8) 0 ≡ get_or levels (m / 8) 0 = get_or-set_other levels k (m / 8) level 0 d in
-      before m (omega (arith, small, d)) (subst (λ n. IsSaidLevel upper n (m % 8)) at said)
-]
+-- ---- one item written
+-- what an item is written to say is true, and so is what the levels said of the others
+module _ (P : ℕ → Type 0) (upper : Bool) (levels : List ℕ) (k level : ℕ) (inside : k < length levels) (here : (l : ℕ) → l < 8 → IsSaidLevel upper level l → (m : ℕ) → m / 8 ≡ k → m % 8 ≡ l → P m) where
+  true_written : (m : ℕ) → IsSaid upper (set levels k level) m → ((m / 8 ≡ k → ⊥) → IsSaid upper levels m → P m) → P m
+  true_written m said others = elim (cases_eq (m / 8) k) [
+    | inl e ↦
+        let at : get_or (set levels k level) (m / 8) 0 ≡ level = ap (λ n. get_or (set levels k level) n 0) e ∙ get_or-set_same levels k level 0 inside in
+        here (m % 8) (omega arith) (subst (λ n. IsSaidLevel upper n (m % 8)) at said) m e refl
+    | inr d ↦
+        let at : get_or (set levels k level) (m / 8) 0 ≡ get_or levels (m / 8) 0 = get_or-set_other levels k (m / 8) level 0 d in
+        others d (subst (λ n. IsSaidLevel upper n (m % 8)) at said)
+  ]
+
+  -- behind the first k items
+  pub true_more : AreTrueTo k P upper levels → AreTrueTo (k + 1) P upper (set levels k level)
+  true_more before = λ m small said. true_written m said (λ d. before m (omega (arith, small, d)))
+
+  -- among all of them, anew
+  pub true_again : AreTrue P upper levels → AreTrue P upper (set levels k level)
+  true_again before = λ m small said. true_written m said (λ d. before m (omega (arith, small, length-set levels k level)))
 
 pub bar_item : (S : LinearSystem) (listed : List (List ℤ)) (f : List ℤ) (k level : ℕ) → IsBarLevel S listed f (k / 2) (is_plus k) level
     → (l : ℕ) → l < 8 → IsSaidLevel true level l → (m : ℕ) → m / 8 ≡ k → m % 8 ≡ l → BarsLine S listed f m
@@ -186,18 +195,6 @@ bar_item S listed f k level h l small said m a b = subst₂ (λ (i n : ℕ). Bar
 
 pub reach_item : (f : List ℤ) (k level : ℕ) → IsReachLevel f (k / 2) (is_plus k) level → (l : ℕ) → l < 8 → IsSaidLevel false level l → (m : ℕ) → m / 8 ≡ k → m % 8 ≡ l → ReachesLine f m
 reach_item f k level h l small said m a b = subst₂ (λ (i n : ℕ). ReachesAt f (i / 2) (is_plus i) n) (sym a) (sym b) (h l said)
-
--- an item anew
-pub true_again : (P : ℕ → Type 0) (upper : Bool) (levels : List ℕ) (k level : ℕ) → k < length levels → ((l : ℕ) → l < 8 → IsSaidLevel upper level l → (m : ℕ) → m / 8 ≡ k → m % 8 ≡ l → P m)
-    → AreTrue P upper levels → AreTrue P upper (set levels k level)
-true_again P upper levels k level inside here before = λ m small said. elim (cases_eq (m / 8) k) [
-  | inl e ↦
-      let at : get_or (set levels k level) (m / 8) 0 ≡ level = ap (λ n. get_or (set levels k level) n 0) e ∙ get_or-set_same levels k level 0 inside in
-      here (m % 8) (omega arith) (subst (λ n. IsSaidLevel upper n (m % 8)) at said) m e refl
-  | inr d ↦
-      let at : get_or (set levels k level) (m / 8) 0 ≡ get_or levels (m / 8) 0 = get_or-set_other levels k (m / 8) level 0 d in
-      before m (omega (arith, small, length-set levels k level)) (subst (λ n. IsSaidLevel upper n (m % 8)) at said)
-]
 
 -- ---- more rows
 pub bars_stay : (S : LinearSystem) (listed new : List (List ℤ)) (f : List ℤ) (j : ℕ) (positive : Bool) (level : ℕ) → BarsAt S listed f j positive level → BarsAt S (listed ++ new) f j positive level

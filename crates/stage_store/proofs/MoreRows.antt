@@ -26,6 +26,7 @@ use Rattle.stage_store.specs.declared.opened.Opened.{Opened}
 use Rattle.stage_store.proofs.Classes.{each_at}
 use Rattle.stage_store.proofs.Publish.{each_snoc}
 use Rattle.stage_store.proofs.Reaches.{reach_stays}
+use Rattle.stage_store.specs.declared.side.Side.TheVariants.{Plus}
 
 -- ---- places ascend
 get_within : (b : ℕ) (xs : List ℕ) (k : ℕ) → AllByRecursion (λ x. b ≤ x) xs → k < length xs → b ≤ get_or xs k 0
@@ -105,7 +106,7 @@ sifted_stays_on S listed new n shelves within h = λ i j il jl p m.
     let b : row_at (listed ++ new) j ≡ row_at listed j = row_stays listed new j (omega (arith, jl, within)) in
     let norms : stage_norm (row_at (listed ++ new) i) + stage_norm (row_at (listed ++ new) j) ≡ stage_norm (row_at listed i) + stage_norm (row_at listed j) = ap₂ (λ x y. x + y) (ap stage_norm a) (ap stage_norm b) in
     elim (h i j il jl (ap has_positive_last (sym a) ∙ p) (ap has_negative_last (sym b) ∙ m)) [
-      | inl k ↦ inl (subst (λ x. IsKept shelves (pair_by true x i j)) (sym norms) k)
+      | inl k ↦ inl (subst (λ x. IsKept shelves (pair_by Plus x i j)) (sym norms) k)
       | inr none ↦ inr (none_stays S listed new i j (omega (arith, il, within)) (omega (arith, jl, within)) none)
     ]
 

@@ -22,6 +22,8 @@ use Rattle.stage_store.specs.Reaches.{entry_against, with_reach, IsReachOr}
 use Rattle.stage_store.proofs.Reaches.{against_above, against_under}
 use Rattle.stage_store.specs.SiftLaws.{NegativesHaveSums, NegativesMakeNone}
 use Rattle.stage_store.specs.Sieve.{HasNoNewSum, HasNoNewSumBy}
+use Rattle.stage_store.specs.declared.side.Side.{Side}
+use Rattle.stage_store.specs.declared.side.Side.TheVariants.{Plus, Minus}
 
 -- ---- single entries
 twice : (x : ℤ) → neg_ℤ (neg_ℤ x) ≡ x
@@ -222,9 +224,9 @@ mirror_closed listed mirror h = λ u c.
     subst (λ v. Contains listed v) (h.mirror_is.negative k l ∙ ap negated at) (Contains-get_or listed (place_in mirror k) [] (omega (arith, h.mirror_is.inside k l, h.count)))
 
 -- the pair of two rows has no irreducible sum, so that of their negatives has none
-pub none_turned : (positive : Bool) (S : LinearSystem) (listed : List (List ℤ)) (mirror : List ℕ) (i j : ℕ) → IsWholeMirror listed mirror → i < length listed → j < length listed → length (row_at listed i) ≡ length (row_at listed j)
-    → HasNoNewSumBy positive S listed i j → HasNoNewSumBy positive S listed (place_in mirror j) (place_in mirror i)
-none_turned positive S listed mirror i j h il jl n = by_sign positive
+pub none_turned : (side : Side) (S : LinearSystem) (listed : List (List ℤ)) (mirror : List ℕ) (i j : ℕ) → IsWholeMirror listed mirror → i < length listed → j < length listed → length (row_at listed i) ≡ length (row_at listed j)
+    → HasNoNewSumBy side S listed i j → HasNoNewSumBy side S listed (place_in mirror j) (place_in mirror i)
+none_turned side S listed mirror i j h il jl n = by_sign side
   where
     crossed : (a b : ℕ) → a < length listed → b < length listed → length (row_at listed a) ≡ length (row_at listed b) → HasNoNewSum S listed a b → HasNoNewSum S listed (place_in mirror b) (place_in mirror a)
     crossed a b al bl m none = λ z s.
@@ -233,9 +235,9 @@ none_turned positive S listed mirror i j h il jl n = by_sign positive
         none_negated S listed (mirror_closed listed mirror h) (row_at listed a) (row_at listed b) none z
         (sum_turned S listed (negated (row_at listed b)) (negated (row_at listed a)) z (negated_length (row_at listed b) ∙ sym m ∙ sym (negated_length (row_at listed a))) t)
 
-    by_sign : (p : Bool) → HasNoNewSumBy p S listed i j → HasNoNewSumBy p S listed (place_in mirror j) (place_in mirror i)
-    by_sign true none = crossed i j il jl n none
-    by_sign false none = crossed j i jl il (sym n) none
+    by_sign : (p : Side) → HasNoNewSumBy p S listed i j → HasNoNewSumBy p S listed (place_in mirror j) (place_in mirror i)
+    by_sign Plus none = crossed i j il jl n none
+    by_sign Minus none = crossed j i jl il (sym n) none
 
 -- a reach of a row is one of its negative, whose last entry is not 0
 reach_negated : (f : List ℤ) (r : ℕ) → (last f ≡ pos 0 → ⊥) → with_reach (negated f) r ≡ negated (with_reach f r)

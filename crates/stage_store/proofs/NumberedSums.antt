@@ -22,7 +22,7 @@ use Rattle.stage_store.proofs.Classes.{get_or-default}
 use Rattle.stage_store.proofs.Numbering.{numbered}
 use Rattle.stage_store.proofs.Publish.{one_norm_order}
 use Rattle.stage_store.proofs.Closing.{sum_is_row}
-use Rattle.stage_store.specs.Numbered.{pair_at, IsSumNumbered, GainsNumbered, HasNoneBetween}
+use Rattle.stage_store.specs.Numbered.{pair_at, IsSumNumbered, GainsNumbered, HasNoneBetween, IsNextPair}
 use Rattle.stage_store.specs.Opened.{IsOpen, open_number}
 use Rattle.stage_store.specs.declared.opened.OpenPair.{OpenPair}
 
@@ -210,6 +210,9 @@ same_default opens k d x l = ap (λ o. o.number) (get_or-default opens k d x l)
 pub all_before : (opens : List OpenPair) (middle first : ℕ) (x : OpenPair) → IsNonDecreasingBy open_number opens → middle < length opens → (get_or opens middle x).number < first → (k : ℕ) (d : OpenPair) → k < middle + 1 → open_number (get_or opens k d) < first
 all_before opens middle first x h l less k d s = omega (arith, h k middle d (omega (arith, s)) l, same_default opens middle d x l, less)
 
+pub all_after : (opens : List OpenPair) (middle first : ℕ) (x : OpenPair) → IsNonDecreasingBy open_number opens → middle < length opens → first ≤ (get_or opens middle x).number → (k : ℕ) (d : OpenPair) → middle ≤ k → k < length opens → first ≤ open_number (get_or opens k d)
+all_after opens middle first x h l least k d m i = omega (arith, h middle k d m i, same_default opens middle d x l, least)
+
 pub open_at : (s : StageValue) (e : ℕ) (opens : List OpenPair) (k : ℕ) (x : OpenPair) → IsOpen s e opens → k < length opens → x ≡ get_or opens k x → (x.number < length (pairs_of s.listed e)) × IsPairAt s.listed e x.number x.first x.second
 open_at s e opens k x h l is = subst (λ (o : OpenPair). (o.number < length (pairs_of s.listed e)) × IsPairAt s.listed e o.number o.first o.second) (sym is) (h.sound k x l)
 
@@ -225,3 +228,16 @@ before_more opens k done next x l is before up here j d s = elim (cases_lt j k) 
 
 pub same_open : (opens : List OpenPair) (k : ℕ) (x y : OpenPair) → k < length opens → x ≡ get_or opens k x → y ≡ get_or opens k y → x.number ≡ y.number
 same_open opens k x y l a b = ap (λ o. o.number) a ∙ same_default opens k x y l ∙ sym (ap (λ o. o.number) b)
+
+-- the open pair at the first place behind those with a number below `from`
+pub next_open : (s : StageValue) (e : ℕ) (opens : List OpenPair) (k from : ℕ) (x : OpenPair) → IsOpen s e opens → k < length opens → x ≡ get_or opens k x → ((j : ℕ) (d : OpenPair) → j < k → (get_or opens j d).number < from)
+    → ((j : ℕ) (d : OpenPair) → k ≤ j → j < length opens → from ≤ (get_or opens j d).number) → IsNextPair s e from x.number x.first
+next_open s e opens k from x h l is before after =
+    let at : (x.number < length (pairs_of s.listed e)) × IsPairAt s.listed e x.number x.first x.second = open_at s e opens k x h l is in
+    record {
+      at_least = omega (arith, after k x (omega arith) l, ap (λ o. o.number) is);
+      below = at.0;
+      none = gap_at s e opens k from x.number x h l is (omega arith) (omega (arith, at.0)) before;
+      inside = at.1.one;
+      first_is = ap (λ p. p.0) at.1.pair;
+    }

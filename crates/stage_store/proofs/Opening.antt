@@ -10,7 +10,7 @@ use Rattle.std.proofs.lemmas.List.Sums.{sum_by_more_le}
 use Rattle.lift_core.proofs.Lists.{contains_head, contains_tail, contains_nothing}
 use Rattle.lift_core.proofs.Orders.{from_map}
 use Rattle.stage_store.specs.Classes.{ClassValue, class_cmp, norm_at, ids_at, part_size, id_part, ids_of}
-use Rattle.std.proofs.Common.{Bool, true, Result, Err, subst₂}
+use Rattle.std.proofs.Common.{Bool, Result, Err, subst₂}
 use Rattle.std.specs.Prelude.{Option, Some, None, MatchOption, MatchResult, ◌==◌}
 use Rattle.std.specs.Ordering.{nat_cmp}
 use Rattle.std.specs.List.Sorted.{IsBinarySearchResult, IsPermutation}
@@ -41,6 +41,7 @@ use Rattle.stage_store.proofs.StageFields.{less_is}
 use Rattle.stage_store.specs.Opened.{IsOpen, open_number, AreOpened, IsNotNumbered, IsNumbered, AreStarts, IsClassOf, HasNoClass, IsPlacedIn, IsNumberOf, HasNoNumber, AreAscending, AscendWithin}
 use Rattle.stage_store.proofs.Classes.{IsPlaceFrom, sorted_at, each_at}
 use Rattle.stage_store.proofs.Pairs.{pair_at, ids_of-length}
+use Rattle.stage_store.specs.declared.side.Side.TheVariants.{Plus}
 
 abbrev pub no_class : ClassValue
 no_class = record { norm = 0; ids = [] }
@@ -216,7 +217,7 @@ module _ (s : StageValue) (plus minus : List ClassValue) (e : ℕ) (p : AreClass
 
   module _ (v : Sieve) (shelf : List KeptPair) (opens : List OpenPair) (h : IsStage s) (sieve : IsSieve s.system.equations s.listed s.norm v) (rows : v.rows ≡ length s.listed) (above : s.norm < e) (near : e < v.shelves.horizon) (here : shelf ≡ get_or v.shelves.shelves.items (e % 256) []) (opened : AreOpened plus minus e shelf opens) where
     kept_number : (n i j : ℕ) → IsPairAt s.listed e n i j → n < length (pairs_of s.listed e) → stage_norm (row_at s.listed i) + stage_norm (row_at s.listed j) ≡ e → Contains {X = ℕ × ℕ} (ids_of plus minus e) (i, j)
-        → IsKept v.shelves (pair_by true (stage_norm (row_at s.listed i) + stage_norm (row_at s.listed j)) i j) → (x : OpenPair) × Contains opens x × (x.number ≡ n)
+        → IsKept v.shelves (pair_by Plus (stage_norm (row_at s.listed i) + stage_norm (row_at s.listed j)) i j) → (x : OpenPair) × Contains opens x × (x.number ≡ n)
     kept_number n i j at inside norms c k =
         let on_shelf : Contains shelf (record { norm = e; first = i; second = j }) = subst (λ l. Contains l (record { norm = e; first = i; second = j })) (sym here) (subst (λ d. Contains (get_or v.shelves.shelves.items (d % 256) []) (record { norm = d; first = i; second = j })) norms (k (omega (arith, norms, above, sieve.upto.closed)) (omega (arith, norms, near)))) in
         let a = opened.whole (record { norm = e; first = i; second = j }) on_shelf refl c in

@@ -1,10 +1,12 @@
 -- Classes of rows: those of one norm, by their places in the list.
-use Rattle.std.specs.Prelude.{◌≡◌, ℕ, ◌-◌, ◌+◌, ◌*◌, ◌<◌, ◌==◌, List, [], ◌∷◌, ◌++◌, ℤ, length, map, Bool, true, false, cond, slice_index_or}
+use Rattle.std.specs.Prelude.{◌≡◌, ℕ, ◌-◌, ◌+◌, ◌*◌, ◌<◌, ◌==◌, List, [], ◌∷◌, ◌++◌, ℤ, length, map, Bool, cond, slice_index_or}
 use Rattle.std.specs.List.{AllByRecursion, filter, flat_map}
 use Rattle.std.specs.List.Sorted.{IsStrictlySortedBy}
 use Rattle.std.specs.declared.cmp.Ordering.{Ordering}
 use Rattle.std.specs.Ordering.{nat_cmp, on}
 use Rattle.lift_core.specs.Stages.{stage_norm, has_positive_last, has_negative_last}
+use Rattle.stage_store.specs.declared.side.Side.{Side}
+use Rattle.stage_store.specs.declared.side.Side.TheVariants.{Plus, Minus}
 
 pub record ClassValue : Type 0 where
   pub norm : ℕ
@@ -69,10 +71,14 @@ abbrev pub with_class : ℕ → List ℕ → List ClassValue → List ClassValue
 with_class e [] classes = classes
 with_class e (i ∷ ids) classes = classes ++ (record { norm = e; ids = i ∷ ids } ∷ [])
 
--- above 0, or below 0
-abbrev pub sign_test : Bool → List ℤ → Bool
-sign_test true z = has_positive_last z
-sign_test false z = has_negative_last z
+-- whether a row is on the side: its last entry is above 0, or below 0
+abbrev pub sign_test : Side → List ℤ → Bool
+sign_test Plus z = has_positive_last z
+sign_test Minus z = has_negative_last z
+
+abbrev pub other_side : Side → Side
+other_side Plus = Minus
+other_side Minus = Plus
 
 -- ---- the numbering
 -- the pairs of norm e in order: the first rows as they are listed, and each with its second rows as they are listed

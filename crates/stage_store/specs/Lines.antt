@@ -53,7 +53,8 @@ AreMarked lines r places =
 abbrev pub AreSaid : Bool → List ℕ → List ℕ → Type 0
 AreSaid upper levels places =
     (a : ℕ) → a < length places
-    → (slice_index_or places a 0 < 8 * length levels) × IsSaid upper levels (slice_index_or places a 0)
+    → (slice_index_or places a 0 < 8 * length levels)
+    × IsSaid upper levels (slice_index_or places a 0)
 
 -- where row a·64 + r of the rows at the places has a bit in line m, P is true of it and m
 abbrev pub Tell : (List ℤ → ℕ → Type 0) → List (List ℤ) → List ℕ → ℕ → List ℕ → Type 0

@@ -18,7 +18,8 @@ pub record IsMirror (listed : List (List ℤ)) (mirror : List ℕ) : Type 0 wher
   pub within : length mirror ≤ length listed
   pub inside : (k : ℕ) → k < length mirror → place_in mirror k < length mirror
   pub back : (k : ℕ) → k < length mirror → place_in mirror (place_in mirror k) ≡ k
-  pub negative : (k : ℕ) → k < length mirror → row_at listed (place_in mirror k) ≡ negated (row_at listed k)
+  pub negative : (k : ℕ) → k < length mirror
+      → row_at listed (place_in mirror k) ≡ negated (row_at listed k)
 
 -- it does so for all listed rows
 pub record IsWholeMirror (listed : List (List ℤ)) (mirror : List ℕ) : Type 0 where
@@ -66,4 +67,5 @@ turned_item k = cond (is_plus k) (k + 1) (k - 1)
 -- each item has the level of the other sign
 pub record IsTurnedLevels (levels turned : List ℕ) : Type 0 where
   pub count : length turned ≡ length levels
-  pub each : (k : ℕ) → k < length turned → slice_index_or turned k 0 ≡ slice_index_or levels (turned_item k) 0
+  pub each : (k : ℕ) → k < length turned
+      → slice_index_or turned k 0 ≡ slice_index_or levels (turned_item k) 0

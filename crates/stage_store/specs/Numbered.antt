@@ -1,8 +1,8 @@
 -- The pairs of a norm by their numbers, and the irreducible sums of a range of them.
-use Rattle.std.specs.Prelude.{◌↔◌, ◌⊎◌, ℕ, ◌<◌, ◌≤◌, List, [], ℤ, slice_index_or}
+use Rattle.std.specs.Prelude.{◌≡◌, ◌↔◌, ◌⊎◌, ℕ, ◌<◌, ◌≤◌, List, [], ℤ, length, slice_index_or}
 use Rattle.std.specs.List.{Contains}
 use Rattle.stage_store.specs.Stage.{StageValue}
-use Rattle.stage_store.specs.Classes.{pairs_of}
+use Rattle.stage_store.specs.Classes.{pairs_of, row_at}
 use Rattle.stage_store.specs.Found.{IsSumOf}
 
 -- the pair of norm e with the number p
@@ -24,3 +24,12 @@ GainsNumbered s e from to old new =
 -- no pair with a number from one on and below another has an irreducible sum
 abbrev pub HasNoneBetween : StageValue → ℕ → ℕ → ℕ → Type 0
 HasNoneBetween s e from to = (z : List ℤ) → IsSumNumbered s e from to z → ⊥
+
+-- the pair with the number p, whose first row is at place i, is the first one from `from` on that may
+-- have an irreducible sum
+pub record IsNextPair (s : StageValue) (e from p i : ℕ) : Type 0 where
+  pub at_least : from ≤ p
+  pub below : p < length (pairs_of s.listed e)
+  pub none : HasNoneBetween s e from p
+  pub inside : i < length s.listed
+  pub first_is : (pair_at s e p).0 ≡ row_at s.listed i

@@ -1,16 +1,18 @@
 //! The tables of the sieve sifted anew, where the pairs of the norms that come were not kept.
 
-ghost use Rattle.std.specs.Prelude.{◌≡◌, ◌+◌, ◌<◌, ◌≤◌, ◌^◌, [], length, true, slice_index_or, OnOk};
+ghost use Rattle.std.specs.Prelude.{◌≡◌, ◌+◌, ◌<◌, ◌≤◌, ◌^◌, [], length, slice_index_or, OnOk};
 ghost use Rattle.lift_core.specs.ToolSystems.{width};
 ghost use Rattle.lift_core.specs.Stages.{has_positive_last, has_negative_last};
 ghost use Rattle.stage_store.specs.Mirror.{AreCouples, IsWholeOr};
 ghost use Rattle.stage_store.specs.Reaches.{AreReaches};
 ghost use Rattle.stage_store.specs.Shelves.{Stay};
 ghost use Rattle.stage_store.specs.Sieve.{AreNormed, AreSifted, AreSiftedBefore, AreWide};
+ghost use Rattle.stage_store.specs.declared.side.Side.TheVariants.{Plus};
 ghost use Rattle.stage_store.specs.Sieve.{IsBefore, IsCoupleSifted, IsTable};
 
 use crate::mirror::are_couples;
 use crate::shelves::Shelves;
+use crate::side::Side;
 use crate::sieve::{keep_rows, sift_first};
 use crate::table::Table;
 use lift_core::System;
@@ -39,16 +41,18 @@ fn sift_row_anew(
     requires wide { AreWide (width system.now.equations + 1) listed.now.rows }
     requires few { length listed.now.rows ≤ 2 ^ 21 }
     requires plus { IsTable system.now.equations listed.now.rows
-        (IsBefore listed.now.rows has_positive_last (length reaches.now)) (length reaches.now) plus.now }
+        (IsBefore listed.now.rows has_positive_last (length reaches.now))
+        (length reaches.now) plus.now }
     requires minus { IsTable system.now.equations listed.now.rows
-        (IsBefore listed.now.rows has_negative_last (length reaches.now)) (length reaches.now) minus.now }
+        (IsBefore listed.now.rows has_negative_last (length reaches.now))
+        (length reaches.now) minus.now }
     requires mirror { IsWholeOr listed.now.rows mirror.now }
     requires end { end ≤ length minus.now.ids.items }
     requires place { k < length plus.now.ids.items }
     ensures count { length shelves.new.shelves.items ≡ 256 }
     ensures stay { Stay shelves.old shelves.new }
-    ensures sifted { OnOk result (AreSiftedBefore true system.now.equations listed.now.rows shelves.new
-        mirror.now (slice_index_or plus.now.ids.items k 0) end minus.now.ids.items) }
+    ensures sifted { OnOk result (AreSiftedBefore Plus system.now.equations listed.now.rows
+        shelves.new mirror.now (slice_index_or plus.now.ids.items k 0) end minus.now.ids.items) }
 {
     let group = &plus.groups[k / 64];
     group.reached.take_marked(false, k % 64, bar_reads)?;
@@ -59,7 +63,7 @@ fn sift_row_anew(
         listed,
         reaches,
         mirror,
-        true,
+        Side::Plus,
         plus.ids[k],
         minus,
         end,
@@ -86,9 +90,11 @@ fn sift_tables(
     requires wide { AreWide (width system.now.equations + 1) listed.now.rows }
     requires few { length listed.now.rows ≤ 2 ^ 21 }
     requires plus { IsTable system.now.equations listed.now.rows
-        (IsBefore listed.now.rows has_positive_last (length reaches.now)) (length reaches.now) plus.now }
+        (IsBefore listed.now.rows has_positive_last (length reaches.now))
+        (length reaches.now) plus.now }
     requires minus { IsTable system.now.equations listed.now.rows
-        (IsBefore listed.now.rows has_negative_last (length reaches.now)) (length reaches.now) minus.now }
+        (IsBefore listed.now.rows has_negative_last (length reaches.now))
+        (length reaches.now) minus.now }
     ensures count { length shelves.new.shelves.items ≡ 256 }
     ensures stay { Stay shelves.old shelves.new }
     ensures sifted { OnOk result
@@ -136,16 +142,18 @@ fn sift_couple_anew(
     requires wide { AreWide (width system.now.equations + 1) listed.now.rows }
     requires few { length listed.now.rows ≤ 2 ^ 21 }
     requires plus { IsTable system.now.equations listed.now.rows
-        (IsBefore listed.now.rows has_positive_last (length reaches.now)) (length reaches.now) plus.now }
+        (IsBefore listed.now.rows has_positive_last (length reaches.now))
+        (length reaches.now) plus.now }
     requires minus { IsTable system.now.equations listed.now.rows
-        (IsBefore listed.now.rows has_negative_last (length reaches.now)) (length reaches.now) minus.now }
+        (IsBefore listed.now.rows has_negative_last (length reaches.now))
+        (length reaches.now) minus.now }
     requires mirror { IsWholeOr listed.now.rows mirror.now }
     requires couples { AreCouples mirror.now plus.now.ids.items minus.now.ids.items }
     requires place { k < length plus.now.ids.items }
     ensures count { length shelves.new.shelves.items ≡ 256 }
     ensures stay { Stay shelves.old shelves.new }
-    ensures sifted { OnOk result (IsCoupleSifted system.now.equations listed.now.rows shelves.new mirror.now
-        plus.now.ids.items minus.now.ids.items k) }
+    ensures sifted { OnOk result (IsCoupleSifted system.now.equations listed.now.rows shelves.new
+        mirror.now plus.now.ids.items minus.now.ids.items k) }
 {
     sift_row_anew(
         shelves,
@@ -161,7 +169,15 @@ fn sift_couple_anew(
         reach_reads,
     )?;
     let width = system.width() as usize;
-    keep_rows(shelves, listed, width, &[], true, plus.ids[k], minus.ids[k])
+    keep_rows(
+        shelves,
+        listed,
+        width,
+        &[],
+        Side::Plus,
+        plus.ids[k],
+        minus.ids[k],
+    )
 }
 
 /// Sifts the pairs of the rows of two tables anew, where the rows of one are the negatives of those of the other: of a pair
@@ -184,9 +200,11 @@ fn sift_couples_anew(
     requires wide { AreWide (width system.now.equations + 1) listed.now.rows }
     requires few { length listed.now.rows ≤ 2 ^ 21 }
     requires plus { IsTable system.now.equations listed.now.rows
-        (IsBefore listed.now.rows has_positive_last (length reaches.now)) (length reaches.now) plus.now }
+        (IsBefore listed.now.rows has_positive_last (length reaches.now))
+        (length reaches.now) plus.now }
     requires minus { IsTable system.now.equations listed.now.rows
-        (IsBefore listed.now.rows has_negative_last (length reaches.now)) (length reaches.now) minus.now }
+        (IsBefore listed.now.rows has_negative_last (length reaches.now))
+        (length reaches.now) minus.now }
     requires mirror { IsWholeOr listed.now.rows mirror.now }
     requires couples { AreCouples mirror.now plus.now.ids.items minus.now.ids.items }
     ensures count { length shelves.new.shelves.items ≡ 256 }
@@ -232,9 +250,11 @@ pub fn sift_anew(
     requires wide { AreWide (width system.now.equations + 1) listed.now.rows }
     requires few { length listed.now.rows ≤ 2 ^ 21 }
     requires plus { IsTable system.now.equations listed.now.rows
-        (IsBefore listed.now.rows has_positive_last (length reaches.now)) (length reaches.now) plus.now }
+        (IsBefore listed.now.rows has_positive_last (length reaches.now))
+        (length reaches.now) plus.now }
     requires minus { IsTable system.now.equations listed.now.rows
-        (IsBefore listed.now.rows has_negative_last (length reaches.now)) (length reaches.now) minus.now }
+        (IsBefore listed.now.rows has_negative_last (length reaches.now))
+        (length reaches.now) minus.now }
     requires mirror { IsWholeOr listed.now.rows mirror.now }
     ensures count { length shelves.new.shelves.items ≡ 256 }
     ensures stay { Stay shelves.old shelves.new }

@@ -7,6 +7,7 @@ ghost use Rattle.lift_core.specs.Stages.{stage_norm, norm_cmp, pairs_within};
 ghost use Rattle.stage_store.specs.CountedPairs.{IsWithinReach, IsBeyondReach};
 
 use crate::growing::has_sign;
+use crate::side::Side;
 use int_vector::norm;
 use row_pool::{Pool, RowId};
 
@@ -31,7 +32,7 @@ pub fn pairs_within(listed: &Pool, norm: u64) -> u64
     let mut reach = Reach { end: 0, seconds: 0 };
     // From the last first row to the first, as a row of less norm reaches further.
     for i in (0..listed.len()).rev() {
-        if has_sign(listed.row(RowId(i)), width, true) {
+        if has_sign(listed.row(RowId(i)), width, Side::Plus) {
             reach = extended_reach(listed, norm_at(listed, i), norm, reach);
             pairs += reach.seconds;
         }
@@ -56,7 +57,7 @@ fn extended_reach(listed: &Pool, first: u64, norm: u64, reach: Reach) -> Reach
         if first + norm_at(listed, end) > norm {
             return Reach { end, seconds };
         }
-        if has_sign(listed.row(RowId(end)), width, false) {
+        if has_sign(listed.row(RowId(end)), width, Side::Minus) {
             seconds += 1;
         }
     }

@@ -10,6 +10,7 @@ ghost use Rattle.stage_store.specs.Merge.{merged};
 ghost use Rattle.stage_store.specs.Classes.{places, sign_test, with_class};
 
 use crate::class::Class;
+use crate::side::Side;
 use int_vector::{lex, norm};
 use reduce_tree::Tree;
 use row_pool::{Pool, RowId};
@@ -185,36 +186,35 @@ pub fn list_rows(listed: &mut Pool, tree: &mut Tree, rows: &Pool) -> Result<(), 
     Ok(())
 }
 
-/// Whether the last entry is above 0, or below it.
+/// Whether the last entry has the sign of a side.
 #[tactic(auto, using(crate::proofs::Signs::sign_laws))]
-pub fn has_sign(row: &[i64], width: usize, positive: bool) -> bool
+pub fn has_sign(row: &[i64], width: usize, side: Side) -> bool
     requires { length row.now ≡ width + 1 }
-    ensures { result ≡ sign_test positive row.now }
+    ensures { result ≡ sign_test side row.now }
 {
-    if positive {
-        row[width] > 0
-    } else {
-        row[width] < 0
+    match side {
+        Side::Plus => row[width] > 0,
+        Side::Minus => row[width] < 0,
     }
 }
 
-/// The class of the rows with a sign, which will be listed from place `base` on.
+/// The class of the rows on a side, which will be listed from place `base` on.
 pub fn class_of(
     alloc: Global,
     rows: &Pool,
     base: u32,
     norm: u64,
-    positive: bool,
+    side: Side,
 ) -> Result<Class, AllocError>
     requires base { base + length rows.now.rows < 2 ^ 32 }
     requires width { 0 < rows.now.width }
     ensures norm { IfOk result (λ c. c.norm ≡ norm) }
-    ensures ids { IfOk result (λ c. c.ids ≡ places (sign_test positive) base rows.now.rows) }
+    ensures ids { IfOk result (λ c. c.ids ≡ places (sign_test side) base rows.now.rows) }
 {
     let mut ids = Vec::new(alloc);
     let width = rows.width() as usize - 1;
     for i in 0..rows.len() {
-        if has_sign(rows.row(RowId(i)), width, positive) {
+        if has_sign(rows.row(RowId(i)), width, side) {
             ids.push(base + i)?;
         }
     }

@@ -18,6 +18,7 @@ mod reach;
 mod rebuilding;
 mod room;
 mod shelves;
+mod side;
 mod sieve;
 mod stage;
 mod table;

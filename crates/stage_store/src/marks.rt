@@ -81,7 +81,8 @@ fn fill_raised(row: &[i64], column: usize, positive: bool, level: u8, probe: &mu
     requires lengths { length row.now ≡ length probe.old }
     requires side { IsOnSide positive (slice_index_or row.now column (pos 0)) }
     ensures length { length probe.new ≡ length probe.old }
-    ensures raised { (listed : List (List ℤ)) → IsReducible listed probe.new → IsNear listed row.now column positive level }
+    ensures raised { (listed : List (List ℤ)) → IsReducible listed probe.new
+        → IsNear listed row.now column positive level }
 {
     fill_probe(row, 0, probe);
     probe[column] = raised(row[column], positive, level);
@@ -102,7 +103,8 @@ fn shows_near(
     requires other { length other.now ≡ length row.now }
     requires side { IsOnSide positive (slice_index_or row.now column (pos 0)) }
     ensures length { length probe.new ≡ length probe.old }
-    ensures near { (listed : List (List ℤ)) → Contains listed other.now → IsTrue result → IsNear listed row.now column positive level }
+    ensures near { (listed : List (List ℤ)) → Contains listed other.now → IsTrue result
+        → IsNear listed row.now column positive level }
 {
     fill_raised(row, column, positive, level, probe);
     below(other, probe)

@@ -7,7 +7,7 @@ ghost use Rattle.std.specs.List.Sorted.{IsNonDecreasingBy};
 ghost use Rattle.lift_core.specs.ToolSystems.{width};
 ghost use Rattle.stage_store.specs.Classes.{pairs_of, IsPairAt};
 ghost use Rattle.lift_core.specs.Halves.{IsReducible};
-ghost use Rattle.stage_store.specs.Numbered.{GainsNumbered, HasNoneBetween};
+ghost use Rattle.stage_store.specs.Numbered.{GainsNumbered, HasNoneBetween, IsNextPair};
 ghost use Rattle.stage_store.specs.Opened.{AreEnough, IsFreeByHalf, IsOpen, open_number};
 
 use crate::opened::{Halves, OpenPair, Opened};
@@ -259,12 +259,14 @@ fn take_open(
     pair.number + 1
 }
 
-/// A place before which all open pairs have numbers below `first`.
+/// The place of the first open pair with a number of at least `first`, or the place behind them all.
 fn open_from(pairs: &[OpenPair], first: u64) -> usize
     requires { IsNonDecreasingBy open_number pairs.now }
     ensures within { result ≤ length pairs.now }
     ensures before { (k : ℕ) (d : OpenPair) → k < result
         → open_number (slice_index_or pairs.now k d) < first }
+    ensures after { (k : ℕ) (d : OpenPair) → result ≤ k → k < length pairs.now
+        → first ≤ open_number (slice_index_or pairs.now k d) }
 {
     let mut low = 0;
     let mut high = pairs.len();
@@ -277,6 +279,23 @@ fn open_from(pairs: &[OpenPair], first: u64) -> usize
         }
     }
     low
+}
+
+/// The first open pair with a number of at least `first`: its number, and its first row.
+pub fn next_opened(stage: &Stage, opened: &Opened, first: u64) -> Option<(u64, RowId)>
+    requires { IsOpen stage.now opened.now.norm opened.now.pairs.items }
+    ensures { MatchOption result
+        (HasNoneBetween stage.now opened.now.norm first
+        (length (pairs_of stage.now.listed opened.now.norm)))
+        (λ next. IsNextPair stage.now opened.now.norm first next.0 next.1.0) }
+{
+    let k = open_from(&opened.pairs, first);
+    if k < opened.pairs.len() {
+        let pair = opened.pairs[k];
+        Some((pair.number, RowId(pair.first)))
+    } else {
+        None
+    }
 }
 
 /// Takes in the sums of the open pairs with the numbers from `first` on, `count` of them.

@@ -15,6 +15,7 @@ ghost use Rattle.stage_store.specs.Mirror.{IsWholeOr};
 ghost use Rattle.stage_store.specs.Reaches.{entry_against, with_reach, AreFarApart, AreReaches, IsReachOr};
 ghost use Rattle.stage_store.specs.Sieve.{HasNoNewSum, HasNoNewSumBy};
 
+use crate::side::Side;
 use int_vector::{Visits, below};
 use reduce_tree::Tree;
 use row_pool::{Pool, RowId};
@@ -50,7 +51,8 @@ pub fn fill_probe(row: &[i64], reach: u64, probe: &mut [i64])
 pub fn find_listed(listed: &Pool, tree: &Tree, z: &[i64]) -> Option<RowId>
     requires indexed { HoldsRows tree.now listed.now }
     requires width { length z.now ≡ listed.now.width }
-    ensures { IfSome result (λ id. (id.0 < length listed.now.rows) × IsReducible listed.now.rows z.now) }
+    ensures { IfSome result (λ id. (id.0 < length listed.now.rows)
+        × IsReducible listed.now.rows z.now) }
 {
     tree.find_below(listed, z, &mut Visits { count: 0 })
 }
@@ -71,7 +73,8 @@ fn shown_reach(other: &[i64], row: &[i64], reach: u64, probe: &mut [i64]) -> u64
     requires other { length other.now ≡ length row.now }
     ensures probe { length probe.new ≡ length probe.old }
     ensures most { result ≤ reach }
-    ensures reach { (listed : List (List ℤ)) → Contains listed other.now → IsReachOr listed row.now reach → IsReachOr listed row.now result }
+    ensures reach { (listed : List (List ℤ)) → Contains listed other.now
+        → IsReachOr listed row.now reach → IsReachOr listed row.now result }
 {
     let least = size_at(other, row.len() - 1).min(reach);
     fill_probe(row, least, probe);
@@ -201,7 +204,8 @@ fn is_far(first: &[i64], second: &[i64], width: usize, reach: u64, other_reach: 
     requires second { length second.now ≡ width + 1 }
     requires first_range { All InRange first.now }
     requires second_range { All InRange second.now }
-    ensures { IsTrue result → AreFarApart (slice_index_or first.now width (pos 0)) (slice_index_or second.now width (pos 0)) reach other_reach }
+    ensures { IsTrue result → AreFarApart (slice_index_or first.now width (pos 0))
+        (slice_index_or second.now width (pos 0)) reach other_reach }
 {
     let above = first[width];
     let under = second[width];
@@ -232,24 +236,16 @@ fn are_far(listed: &Pool, width: usize, reaches: &[u64], f: u32, g: u32) -> bool
 }
 
 /// Whether the pair of a row and another is known to have no irreducible sum, by the reaches of the two.
-pub fn is_passed(
-    listed: &Pool,
-    width: usize,
-    reaches: &[u64],
-    positive: bool,
-    i: u32,
-    j: u32,
-) -> bool
+pub fn is_passed(listed: &Pool, width: usize, reaches: &[u64], side: Side, i: u32, j: u32) -> bool
     requires width { listed.now.width ≡ width + 1 }
     requires reaches { AreReaches listed.now.rows reaches.now }
     requires count { length reaches.now ≤ length listed.now.rows }
     requires one { i < length reaches.now }
     requires two { j < length reaches.now }
-    ensures { (S : LinearSystem) → IsTrue result → HasNoNewSumBy positive S listed.now.rows i j }
+    ensures { (S : LinearSystem) → IsTrue result → HasNoNewSumBy side S listed.now.rows i j }
 {
-    if positive {
-        are_far(listed, width, reaches, i, j)
-    } else {
-        are_far(listed, width, reaches, j, i)
+    match side {
+        Side::Plus => are_far(listed, width, reaches, i, j),
+        Side::Minus => are_far(listed, width, reaches, j, i),
     }
 }

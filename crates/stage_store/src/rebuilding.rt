@@ -12,6 +12,7 @@ ghost use Rattle.stage_store.specs.Opened.{AscendWithin};
 use crate::class::Class;
 use crate::counting::norm_at;
 use crate::growing::{add_class, has_sign, waits_up_to};
+use crate::side::Side;
 use lift_core::Tool;
 use reduce_tree::{FiledBy, Tree};
 use row_pool::{Pool, RowId};
@@ -43,15 +44,15 @@ pub fn tree_of(alloc: Global, tool: Tool, listed: &Pool) -> Result<Tree, AllocEr
     Ok(tree)
 }
 
-/// The classes of the rows with a last entry above 0, or below it: one for each norm that has any.
-pub fn classes_of(alloc: Global, listed: &Pool, positive: bool) -> Result<Vec<Class>, AllocError>
+/// The classes of the rows on a side: one for each norm that has any.
+pub fn classes_of(alloc: Global, listed: &Pool, side: Side) -> Result<Vec<Class>, AllocError>
     requires width { 0 < listed.now.width }
     requires ascending { IsStrictlySortedBy norm_cmp listed.now.rows }
     requires above { AllByRecursion (λ z. 0 < stage_norm z) listed.now.rows }
     requires small { AllByRecursion (λ z. stage_norm z ≤ 9223372036854775807) listed.now.rows }
     requires few { length listed.now.rows ≤ 2 ^ 21 }
     ensures classes { IfOk result
-        (λ classes. AreClasses listed.now.rows (sign_test positive) classes.items) }
+        (λ classes. AreClasses listed.now.rows (sign_test side) classes.items) }
     ensures ids { IfOk result (λ classes. AscendWithin classes.items) }
 {
     let mut classes = Vec::new(alloc);
@@ -59,7 +60,7 @@ pub fn classes_of(alloc: Global, listed: &Pool, positive: bool) -> Result<Vec<Cl
     while from < listed.len() {
         let norm = norm_at(listed, from);
         let to = waits_up_to(listed, from, norm);
-        let class = class_within(alloc, listed, from, to, norm, positive)?;
+        let class = class_within(alloc, listed, from, to, norm, side)?;
         classes.reserve(1)?;
         add_class(&mut classes, class);
         from = to;
@@ -67,26 +68,26 @@ pub fn classes_of(alloc: Global, listed: &Pool, positive: bool) -> Result<Vec<Cl
     Ok(classes)
 }
 
-/// The class of the rows with a sign, among the rows of a norm from one place up to another.
+/// The class of the rows on a side, among the rows of a norm from one place up to another.
 fn class_within(
     alloc: Global,
     listed: &Pool,
     from: u32,
     to: u32,
     norm: u64,
-    positive: bool,
+    side: Side,
 ) -> Result<Class, AllocError>
     requires from { from ≤ to }
     requires to { to ≤ length listed.now.rows }
     requires width { 0 < listed.now.width }
     ensures norm { IfOk result (λ c. c.norm ≡ norm) }
     ensures ids { IfOk result
-        (λ c. c.ids ≡ places (sign_test positive) from (drop from (take to listed.now.rows))) }
+        (λ c. c.ids ≡ places (sign_test side) from (drop from (take to listed.now.rows))) }
 {
     let mut ids = Vec::new(alloc);
     let width = listed.width() as usize - 1;
     for i in from..to {
-        if has_sign(listed.row(RowId(i)), width, positive) {
+        if has_sign(listed.row(RowId(i)), width, side) {
             ids.push(i)?;
         }
     }

@@ -71,7 +71,8 @@ impl Room {
         requires sized { AreSized (16 * width system.now.equations) table.now.groups.items }
         requires room { IsRoom system.now.equations self.old }
         ensures room { IsRoom system.now.equations self.new }
-        ensures asked { OnOk result (AreAsked system.now.equations listed.now.rows (row_at listed.now.rows i) self.new) }
+        ensures asked { OnOk result (AreAsked system.now.equations listed.now.rows
+            (row_at listed.now.rows i) self.new) }
     {
         let row = listed.row(RowId(i));
         fill_bars(system, listed, row, &mut self.bars);
@@ -106,7 +107,8 @@ impl Room {
         requires room { IsRoom system.now.equations self.old }
         ensures room { IsRoom system.now.equations self.new }
         ensures turned { IsTurnedLevels self.old.bars.items self.new.turned.items }
-        ensures reached { AreTrue (ReachesLine (row_at listed.now.rows negative)) false self.new.reached.items }
+        ensures reached { AreTrue (ReachesLine (row_at listed.now.rows negative)) false
+            self.new.reached.items }
     {
         fill_turned(&self.bars, &mut self.turned);
         fill_reached(listed.row(RowId(negative)), &mut self.reached);

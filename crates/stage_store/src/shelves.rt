@@ -167,7 +167,8 @@ impl Shelves {
 
     /// Whether no pair is kept that has the norm of one row and one from `least` to `most` together.
     pub fn leaves_out(&self, norm: u64, least: u64, most: u64) -> bool
-        ensures { IsTrue result → (norm + most ≤ self.now.closed) ⊎ (self.now.horizon ≤ norm + least) }
+        ensures { IsTrue result → (norm + most ≤ self.now.closed)
+            ⊎ (self.now.horizon ≤ norm + least) }
     {
         if norm <= self.closed && most <= self.closed - norm {
             return true;

@@ -10,7 +10,7 @@ ghost use Rattle.lift_core.specs.Systems.{LinearSystem};
 ghost use Rattle.lift_core.specs.ToolSystems.{width};
 ghost use Rattle.stage_store.specs.Indexed.{HoldsRows};
 ghost use Rattle.lift_core.specs.Stages.{stage_norm, has_positive_last, has_negative_last};
-ghost use Rattle.stage_store.specs.Classes.{row_at, rows_at, places, sign_test};
+ghost use Rattle.stage_store.specs.Classes.{row_at, rows_at, places, sign_test, other_side};
 ghost use Rattle.stage_store.specs.Lines.{AreClear, AreInside};
 ghost use Rattle.stage_store.specs.Levels.{AreTrue, BarsLine, ReachesLine};
 ghost use Rattle.stage_store.specs.Reaches.{AreReaches};
@@ -25,6 +25,7 @@ use crate::mirror::{add_turned, are_turned};
 use crate::reach::{is_passed, reach_or};
 use crate::room::Room;
 use crate::shelves::Shelves;
+use crate::side::Side;
 use crate::table::Table;
 use lift_core::System;
 use reduce_tree::Tree;
@@ -54,22 +55,21 @@ pub struct Sieve {
     shelves: Shelves,
 }
 
-/// The pair of a row and another, where the first one's last entry is above 0 or below it.
-fn pair_of(positive: bool, norm: u64, i: u32, j: u32) -> KeptPair
-    ensures { result ≡ pair_by positive norm i j }
+/// The pair of a row on a side and another.
+fn pair_of(side: Side, norm: u64, i: u32, j: u32) -> KeptPair
+    ensures { result ≡ pair_by side norm i j }
 {
-    if positive {
-        KeptPair {
+    match side {
+        Side::Plus => KeptPair {
             norm,
             first: i,
             second: j,
-        }
-    } else {
-        KeptPair {
+        },
+        Side::Minus => KeptPair {
             norm,
             first: j,
             second: i,
-        }
+        },
     }
 }
 
@@ -79,7 +79,7 @@ pub fn keep_rows(
     listed: &Pool,
     width: usize,
     mirror: &[u32],
-    positive: bool,
+    side: Side,
     i: u32,
     j: u32,
 ) -> Result<(), AllocError>
@@ -90,20 +90,22 @@ pub fn keep_rows(
     requires two { j < length listed.now.rows }
     ensures count { length shelves.new.shelves.items ≡ 256 }
     ensures stay { Stay shelves.old shelves.new }
-    ensures kept { OnOk result (IsKept shelves.new (pair_by positive (stage_norm (row_at listed.now.rows i) + stage_norm (row_at listed.now.rows j)) i j)) }
+    ensures kept { OnOk result (IsKept shelves.new (pair_by side
+        (stage_norm (row_at listed.now.rows i) + stage_norm (row_at listed.now.rows j)) i j)) }
     ensures turned { OnOk result (i < length mirror.now → j < length mirror.now
-        → IsKept shelves.new (pair_by positive (stage_norm (row_at listed.now.rows i) + stage_norm (row_at listed.now.rows j))
+        → IsKept shelves.new (pair_by side
+        (stage_norm (row_at listed.now.rows i) + stage_norm (row_at listed.now.rows j))
         (place_in mirror.now j) (place_in mirror.now i))) }
 {
     let one = norm_of(listed.row(RowId(i)), width);
     let two = norm_of(listed.row(RowId(j)), width);
-    shelves.keep(pair_of(positive, one + two, i, j))?;
+    shelves.keep(pair_of(side, one + two, i, j))?;
     if i as usize >= mirror.len() || j as usize >= mirror.len() {
         return Ok(());
     }
     let first = mirror[j as usize];
     let second = mirror[i as usize];
-    shelves.keep(pair_of(positive, one + two, first, second))
+    shelves.keep(pair_of(side, one + two, first, second))
 }
 
 /// Sifts the pairs of a row with at most 64 others, each of which has a bit of `dead` that tells, where it is set,
@@ -114,7 +116,7 @@ fn sift_group(
     listed: &Pool,
     reaches: &[u64],
     mirror: &[u32],
-    positive: bool,
+    side: Side,
     i: u32,
     others: &[u32],
     dead: u64,
@@ -130,10 +132,12 @@ fn sift_group(
     requires others { AllByRecursion (λ j. j < length reaches.now) others.now }
     requires most { length others.now ≤ 64 }
     requires dead { (k : ℕ) → k < length others.now → bit_at dead k ≡ 1
-        → HasNoNewSumBy positive system.now.equations listed.now.rows i (slice_index_or others.now k 0) }
+        → HasNoNewSumBy side system.now.equations listed.now.rows i
+        (slice_index_or others.now k 0) }
     ensures count { length shelves.new.shelves.items ≡ 256 }
     ensures stay { Stay shelves.old shelves.new }
-    ensures sifted { OnOk result (AreSiftedBy positive system.now.equations listed.now.rows shelves.new mirror.now i others.now) }
+    ensures sifted { OnOk result (AreSiftedBy side system.now.equations listed.now.rows shelves.new
+        mirror.now i others.now) }
 {
     // Of most groups all rows are out.
     if dead == u64::MAX {
@@ -144,10 +148,10 @@ fn sift_group(
         if (dead >> k) & 1 == 1 {
             continue;
         }
-        if is_passed(listed, width, reaches, positive, i, others[k]) {
+        if is_passed(listed, width, reaches, side, i, others[k]) {
             continue;
         }
-        keep_rows(shelves, listed, width, mirror, positive, i, others[k])?;
+        keep_rows(shelves, listed, width, mirror, side, i, others[k])?;
     }
     Ok(())
 }
@@ -160,7 +164,7 @@ pub fn sift_first(
     listed: &Pool,
     reaches: &[u64],
     mirror: &[u32],
-    positive: bool,
+    side: Side,
     i: u32,
     table: &Table,
     end: usize,
@@ -180,13 +184,18 @@ pub fn sift_first(
     requires few { length table.now.ids.items ≤ 2 ^ 21 }
     requires groups { length table.now.groups.items ≡ (length table.now.ids.items + 63) / 64 }
     requires sized { AreSized (16 * width system.now.equations) table.now.groups.items }
-    requires tell { AreGroups system.now.equations listed.now.rows table.now.ids.items table.now.groups.items }
-    requires bar_reads { AreReads (ReachesLine (row_at listed.now.rows i)) (16 * width system.now.equations) bar_reads.now }
-    requires reach_reads { AreReads (BarsLine system.now.equations listed.now.rows (row_at listed.now.rows i)) (16 * width system.now.equations) reach_reads.now }
+    requires tell { AreGroups system.now.equations listed.now.rows table.now.ids.items
+        table.now.groups.items }
+    requires bar_reads { AreReads (ReachesLine (row_at listed.now.rows i))
+        (16 * width system.now.equations) bar_reads.now }
+    requires reach_reads { AreReads
+        (BarsLine system.now.equations listed.now.rows (row_at listed.now.rows i))
+        (16 * width system.now.equations) reach_reads.now }
     ensures count { length shelves.new.shelves.items ≡ 256 }
     ensures stay { Stay shelves.old shelves.new }
     ensures sifted { OnOk result (AreSiftedBefore
-        positive system.now.equations listed.now.rows shelves.new mirror.now i end table.now.ids.items) }
+        side system.now.equations listed.now.rows shelves.new mirror.now i end
+        table.now.ids.items) }
 {
     let norm = norm_of(listed.row(RowId(i)), system.width() as usize);
     let groups = (end + 63) / 64;
@@ -200,7 +209,7 @@ pub fn sift_first(
         let dead = lines.dead(bar_reads, reach_reads);
         let others = &table.ids[from..to];
         sift_group(
-            shelves, system, listed, reaches, mirror, positive, i, others, dead,
+            shelves, system, listed, reaches, mirror, side, i, others, dead,
         )?;
     }
     Ok(())
@@ -213,7 +222,7 @@ fn sift_row(
     listed: &Pool,
     reaches: &[u64],
     mirror: &[u32],
-    positive: bool,
+    side: Side,
     i: u32,
     table: &Table,
     bar_reads: &[usize],
@@ -231,13 +240,18 @@ fn sift_row(
     requires few { length table.now.ids.items ≤ 2 ^ 21 }
     requires groups { length table.now.groups.items ≡ (length table.now.ids.items + 63) / 64 }
     requires sized { AreSized (16 * width system.now.equations) table.now.groups.items }
-    requires tell { AreGroups system.now.equations listed.now.rows table.now.ids.items table.now.groups.items }
-    requires bar_reads { AreReads (ReachesLine (row_at listed.now.rows i)) (16 * width system.now.equations) bar_reads.now }
-    requires reach_reads { AreReads (BarsLine system.now.equations listed.now.rows (row_at listed.now.rows i)) (16 * width system.now.equations) reach_reads.now }
+    requires tell { AreGroups system.now.equations listed.now.rows table.now.ids.items
+        table.now.groups.items }
+    requires bar_reads { AreReads (ReachesLine (row_at listed.now.rows i))
+        (16 * width system.now.equations) bar_reads.now }
+    requires reach_reads { AreReads
+        (BarsLine system.now.equations listed.now.rows (row_at listed.now.rows i))
+        (16 * width system.now.equations) reach_reads.now }
     ensures count { length shelves.new.shelves.items ≡ 256 }
     ensures stay { Stay shelves.old shelves.new }
     ensures sifted { OnOk result
-        (AreSiftedBy positive system.now.equations listed.now.rows shelves.new mirror.now i table.now.ids.items) }
+        (AreSiftedBy side system.now.equations listed.now.rows shelves.new mirror.now i
+        table.now.ids.items) }
 {
     sift_first(
         shelves,
@@ -245,13 +259,69 @@ fn sift_row(
         listed,
         reaches,
         mirror,
-        positive,
+        side,
         i,
         table,
         table.ids.len(),
         bar_reads,
         reach_reads,
     )
+}
+
+/// Sifts the pairs of a row with those before it on the other side, which the other table has, and takes it into its own.
+fn sift_into(
+    alloc: Global,
+    shelves: &mut Shelves,
+    system: &System,
+    listed: &Pool,
+    tree: &Tree,
+    reaches: &[u64],
+    side: Side,
+    i: u32,
+    own: &mut Table,
+    other: &Table,
+    room: &mut Room,
+) -> Result<(), AllocError>
+    requires count { length shelves.old.shelves.items ≡ 256 }
+    requires indexed { HoldsRows tree.now listed.now }
+    requires width { listed.now.width ≡ width system.now.equations + 1 }
+    requires narrow { width system.now.equations ≤ 129 }
+    requires few { length listed.now.rows ≤ 2 ^ 21 }
+    requires norms { AreNormed listed.now.rows }
+    requires wide { AreWide (width system.now.equations + 1) listed.now.rows }
+    requires reaches { AreReaches listed.now.rows reaches.now }
+    requires reach_count { length reaches.now ≡ length listed.now.rows }
+    requires row { i < length listed.now.rows }
+    requires sign { sign_test side (row_at listed.now.rows i) ≡ true }
+    requires own { IsTable system.now.equations listed.now.rows
+        (IsBefore listed.now.rows (sign_test side) i) i own.old }
+    requires other { IsTable system.now.equations listed.now.rows
+        (IsBefore listed.now.rows (sign_test (other_side side)) i) i other.now }
+    requires room { IsRoom system.now.equations room.old }
+    ensures count { length shelves.new.shelves.items ≡ 256 }
+    ensures stay { Stay shelves.old shelves.new }
+    ensures room { IsRoom system.now.equations room.new }
+    ensures sifted { OnOk result
+        (AreSiftedBy side system.now.equations listed.now.rows shelves.new [] i
+        other.now.ids.items) }
+    ensures own { OnOk result (IsTable system.now.equations listed.now.rows
+        (IsBefore listed.now.rows (sign_test side) (i + 1)) (i + 1) own.new) }
+{
+    room.ask(system, listed, tree, i, other)?;
+    let norm = norm_of(listed.row(RowId(i)), system.width() as usize);
+    sift_row(
+        shelves,
+        system,
+        listed,
+        reaches,
+        &[],
+        side,
+        i,
+        other,
+        &room.bar_reads,
+        &room.reach_reads,
+    )?;
+    own.push(alloc, i, norm, &room.bars, &room.reached)
 }
 
 impl Sieve {
@@ -337,7 +407,8 @@ impl Sieve {
         requires held { IsSieve system.now.equations listed.now.rows norm self.old }
         ensures shelves { length self.new.shelves.shelves.items ≡ 256 }
         ensures reach_count { OnOk result (length self.new.reaches.items ≡ length listed.now.rows) }
-        ensures upto { OnOk result (IsSieveTo system.now.equations listed.now.rows norm (length listed.now.rows) self.new) }
+        ensures upto { OnOk result (IsSieveTo system.now.equations listed.now.rows norm
+            (length listed.now.rows) self.new) }
     {
         let known = self.turn_rows(alloc, listed)?;
         self.renew(alloc, system, listed, norm, next)?;
@@ -414,12 +485,14 @@ impl Sieve {
         requires wide { AreWide (width system.now.equations + 1) listed.now.rows }
         requires within { self.old.rows ≤ length listed.now.rows }
         requires reach_count { length self.old.reaches.items ≡ self.old.rows }
-        requires turned { IsTrue known → IsTurnedTo listed.now.rows self.old.rows self.old.mirror.items }
+        requires turned { IsTrue known
+            → IsTurnedTo listed.now.rows self.old.rows self.old.mirror.items }
         requires mirror { IsWholeOr listed.now.rows self.old.mirror.items }
         requires upto { IsSieveTo system.now.equations listed.now.rows norm self.old.rows self.old }
         ensures shelves { length self.new.shelves.shelves.items ≡ 256 }
         ensures reach_count { OnOk result (length self.new.reaches.items ≡ length listed.now.rows) }
-        ensures upto { OnOk result (IsSieveTo system.now.equations listed.now.rows norm (length listed.now.rows) self.new) }
+        ensures upto { OnOk result (IsSieveTo system.now.equations listed.now.rows norm
+            (length listed.now.rows) self.new) }
     {
         let mut room = Room::new(alloc, system.width() as usize)?;
         self.find_reaches(listed, tree, &mut room.probe)?;
@@ -463,7 +536,8 @@ impl Sieve {
         requires some { 0 < listed.now.width }
         requires mirror { IsMirror listed.now.rows self.old.mirror.items }
         ensures same { HasNewMirror self.old self.new }
-        ensures turned { IfOk result (λ known. IsTrue known → IsTurnedTo listed.now.rows self.old.rows self.new.mirror.items) }
+        ensures turned { IfOk result (λ known. IsTrue known
+            → IsTurnedTo listed.now.rows self.old.rows self.new.mirror.items) }
         ensures mirror { IfOk result (λ known. IsFalse known → self.new.mirror.items ≡ []) }
     {
         if self.mirror.len() != self.rows as usize || !are_turned(listed, self.rows) {
@@ -497,11 +571,12 @@ impl Sieve {
         requires room { IsRoom system.now.equations room.old }
         ensures shelves { length self.new.shelves.shelves.items ≡ 256 }
         ensures reach_count { OnOk result (length self.new.reaches.items ≡ length listed.now.rows) }
-        ensures upto { OnOk result (IsSieveTo system.now.equations listed.now.rows norm (length listed.now.rows) self.new) }
+        ensures upto { OnOk result (IsSieveTo system.now.equations listed.now.rows norm
+            (length listed.now.rows) self.new) }
     {
         let width = system.width() as usize;
         for i in self.rows..listed.len() {
-            if !has_sign(listed.row(RowId(i)), width, true) {
+            if !has_sign(listed.row(RowId(i)), width, Side::Plus) {
                 continue;
             }
             self.sift_couple(alloc, system, listed, tree, norm, i, room)?;
@@ -533,8 +608,10 @@ impl Sieve {
         requires room { IsRoom system.now.equations room.old }
         ensures room { IsRoom system.now.equations room.new }
         ensures shelves { length self.new.shelves.shelves.items ≡ 256 }
-        ensures same { (self.new.rows ≡ self.old.rows) × (self.new.reaches ≡ self.old.reaches) × (self.new.mirror ≡ self.old.mirror) }
-        ensures coupled { OnOk result (AreCoupledTo system.now.equations listed.now.rows norm (i + 1) self.new) }
+        ensures same { (self.new.rows ≡ self.old.rows) × (self.new.reaches ≡ self.old.reaches)
+            × (self.new.mirror ≡ self.old.mirror) }
+        ensures coupled { OnOk result (AreCoupledTo system.now.equations listed.now.rows norm
+            (i + 1) self.new) }
     {
         room.ask(system, listed, tree, i, &self.minus)?;
         let width = system.width() as usize;
@@ -546,13 +623,21 @@ impl Sieve {
             listed,
             &self.reaches,
             &self.mirror,
-            true,
+            Side::Plus,
             i,
             &self.minus,
             &room.bar_reads,
             &room.reach_reads,
         )?;
-        keep_rows(&mut self.shelves, listed, width, &[], true, i, negative)?;
+        keep_rows(
+            &mut self.shelves,
+            listed,
+            width,
+            &[],
+            Side::Plus,
+            i,
+            negative,
+        )?;
         self.plus.push(alloc, i, own, &room.bars, &room.reached)?;
         room.turn(system, listed, negative);
         self.minus
@@ -581,7 +666,8 @@ impl Sieve {
         requires room { IsRoom system.now.equations room.old }
         ensures shelves { length self.new.shelves.shelves.items ≡ 256 }
         ensures reach_count { OnOk result (length self.new.reaches.items ≡ length listed.now.rows) }
-        ensures upto { OnOk result (IsSieveTo system.now.equations listed.now.rows norm (length listed.now.rows) self.new) }
+        ensures upto { OnOk result (IsSieveTo system.now.equations listed.now.rows norm
+            (length listed.now.rows) self.new) }
     {
         for i in self.rows..listed.len() {
             self.sift_next(alloc, system, listed, tree, norm, i, room)?;
@@ -613,103 +699,40 @@ impl Sieve {
         ensures room { IsRoom system.now.equations room.new }
         ensures shelves { length self.new.shelves.shelves.items ≡ 256 }
         ensures reach_count { length self.new.reaches.items ≡ length listed.now.rows }
-        ensures upto { OnOk result (IsSieveTo system.now.equations listed.now.rows norm (i + 1) self.new) }
+        ensures upto { OnOk result (IsSieveTo system.now.equations listed.now.rows norm
+            (i + 1) self.new) }
     {
         let width = system.width() as usize;
-        if has_sign(listed.row(RowId(i)), width, true) {
-            return self.sift_above(alloc, system, listed, tree, norm, i, room);
+        if has_sign(listed.row(RowId(i)), width, Side::Plus) {
+            return sift_into(
+                alloc,
+                &mut self.shelves,
+                system,
+                listed,
+                tree,
+                &self.reaches,
+                Side::Plus,
+                i,
+                &mut self.plus,
+                &self.minus,
+                room,
+            );
         }
-        if has_sign(listed.row(RowId(i)), width, false) {
-            return self.sift_under(alloc, system, listed, tree, norm, i, room);
+        if has_sign(listed.row(RowId(i)), width, Side::Minus) {
+            return sift_into(
+                alloc,
+                &mut self.shelves,
+                system,
+                listed,
+                tree,
+                &self.reaches,
+                Side::Minus,
+                i,
+                &mut self.minus,
+                &self.plus,
+                room,
+            );
         }
         Ok(())
-    }
-
-    /// Sifts the pairs of a row with last entry above 0.
-    fn sift_above(
-        &mut self,
-        alloc: Global,
-        system: &System,
-        listed: &Pool,
-        tree: &Tree,
-        norm: u64,
-        i: u32,
-        room: &mut Room,
-    ) -> Result<(), AllocError>
-        requires indexed { HoldsRows tree.now listed.now }
-        requires width { listed.now.width ≡ width system.now.equations + 1 }
-        requires narrow { width system.now.equations ≤ 129 }
-        requires few { length listed.now.rows ≤ 2 ^ 21 }
-        requires norms { AreNormed listed.now.rows }
-        requires wide { AreWide (width system.now.equations + 1) listed.now.rows }
-        requires row { i < length listed.now.rows }
-        requires sign { has_positive_last (row_at listed.now.rows i) ≡ true }
-        requires reach_count { length self.old.reaches.items ≡ length listed.now.rows }
-        requires upto { IsSieveTo system.now.equations listed.now.rows norm i self.old }
-        requires room { IsRoom system.now.equations room.old }
-        ensures room { IsRoom system.now.equations room.new }
-        ensures shelves { length self.new.shelves.shelves.items ≡ 256 }
-        ensures reach_count { length self.new.reaches.items ≡ length listed.now.rows }
-        ensures upto { OnOk result (IsSieveTo system.now.equations listed.now.rows norm (i + 1) self.new) }
-    {
-        room.ask(system, listed, tree, i, &self.minus)?;
-        let own = norm_of(listed.row(RowId(i)), system.width() as usize);
-        sift_row(
-            &mut self.shelves,
-            system,
-            listed,
-            &self.reaches,
-            &[],
-            true,
-            i,
-            &self.minus,
-            &room.bar_reads,
-            &room.reach_reads,
-        )?;
-        self.plus.push(alloc, i, own, &room.bars, &room.reached)
-    }
-
-    /// Sifts the pairs of a row with last entry below 0.
-    fn sift_under(
-        &mut self,
-        alloc: Global,
-        system: &System,
-        listed: &Pool,
-        tree: &Tree,
-        norm: u64,
-        i: u32,
-        room: &mut Room,
-    ) -> Result<(), AllocError>
-        requires indexed { HoldsRows tree.now listed.now }
-        requires width { listed.now.width ≡ width system.now.equations + 1 }
-        requires narrow { width system.now.equations ≤ 129 }
-        requires few { length listed.now.rows ≤ 2 ^ 21 }
-        requires norms { AreNormed listed.now.rows }
-        requires wide { AreWide (width system.now.equations + 1) listed.now.rows }
-        requires row { i < length listed.now.rows }
-        requires sign { has_negative_last (row_at listed.now.rows i) ≡ true }
-        requires reach_count { length self.old.reaches.items ≡ length listed.now.rows }
-        requires upto { IsSieveTo system.now.equations listed.now.rows norm i self.old }
-        requires room { IsRoom system.now.equations room.old }
-        ensures room { IsRoom system.now.equations room.new }
-        ensures shelves { length self.new.shelves.shelves.items ≡ 256 }
-        ensures reach_count { length self.new.reaches.items ≡ length listed.now.rows }
-        ensures upto { OnOk result (IsSieveTo system.now.equations listed.now.rows norm (i + 1) self.new) }
-    {
-        room.ask(system, listed, tree, i, &self.plus)?;
-        let own = norm_of(listed.row(RowId(i)), system.width() as usize);
-        sift_row(
-            &mut self.shelves,
-            system,
-            listed,
-            &self.reaches,
-            &[],
-            false,
-            i,
-            &self.plus,
-            &room.bar_reads,
-            &room.reach_reads,
-        )?;
-        self.minus.push(alloc, i, own, &room.bars, &room.reached)
     }
 }

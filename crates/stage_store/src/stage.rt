@@ -15,7 +15,7 @@ ghost use Rattle.lift_core.specs.Ends.{solution_cmp};
 ghost use Rattle.int_vector.specs.Range.{InRange};
 ghost use Rattle.stage_store.specs.Stage.{StageValue, IsStage, IsDefined, used_of};
 ghost use Rattle.stage_store.specs.Classes.{pairs_of, IsPairAt};
-ghost use Rattle.stage_store.specs.Numbered.{GainsNumbered};
+ghost use Rattle.stage_store.specs.Numbered.{GainsNumbered, HasNoneBetween, IsNextPair};
 ghost use Rattle.stage_store.specs.Opened.{AreEnough, IsFreeAtZero};
 ghost use Rattle.stage_store.specs.Least.{IsLeastAbove};
 ghost use Rattle.stage_store.specs.Answers.{IsNext, HasWaitingNorm, HasStagePair};
@@ -28,10 +28,11 @@ use crate::class::{Class, count_pairs, find_pair, lesser, pair_norm_above};
 use crate::counting::{pairs_within, rows_within};
 use crate::growing::{add_class, class_of, list_rows, make_room, merged_rows, waits_up_to};
 use crate::lifting::{extended, kept_solutions, units};
-use crate::numbered::{Hints, gather_all, take_opened, take_range};
+use crate::numbered::{Hints, gather_all, next_opened, take_opened, take_range};
 use crate::opened::{Halves, OpenPair, Opened, open_norm};
 use crate::order::in_order;
 use crate::rebuilding::{classes_of, empty_tree, tree_of};
+use crate::side::Side;
 use crate::sieve::Sieve;
 use crate::tally::Tally;
 use int_vector::{Visits, add_into, conformal, norm};
@@ -184,7 +185,8 @@ impl Model for Stage {
       before = s.before;
       listed = s.listed.rows;
       waiting = drop s.waited s.waiting.rows;
-    }) s.listed s.tree s.waiting s.waited s.used s.plus.items s.minus.items s.sieve s.following s.tally s.ahead };
+    }) s.listed s.tree s.waiting s.waited s.used s.plus.items s.minus.items s.sieve s.following
+        s.tally s.ahead };
 }
 
 impl Stage {
@@ -284,8 +286,8 @@ impl Stage {
             before,
             used,
             tree: tree_of(alloc, tool, &listed)?,
-            plus: classes_of(alloc, &listed, true)?,
-            minus: classes_of(alloc, &listed, false)?,
+            plus: classes_of(alloc, &listed, Side::Plus)?,
+            minus: classes_of(alloc, &listed, Side::Minus)?,
             listed,
             waiting,
             waited: 0,
@@ -305,8 +307,13 @@ impl Stage {
         ensures defined { IsDefined self → IfOk result IsLiftedDefined }
         ensures sound { IfOk result IsSound }
     {
-        let solutions = kept_solutions(self.alloc, &self.listed)?;
         let defined = self.ahead.defined;
+        // What is not handed on goes as soon as it can: the lists are what takes most memory.
+        drop(self.waiting);
+        drop(self.tree);
+        drop(self.sieve);
+        let solutions = kept_solutions(self.alloc, &self.listed)?;
+        drop(self.listed);
         match Stage::start(
             self.alloc,
             self.system,
@@ -435,6 +442,22 @@ impl Stage {
     {
         let (f, g) = find_pair(&self.plus, &self.minus, norm, p);
         (RowId(f), RowId(g))
+    }
+
+    /// The first pair of a norm from the number `first` on that may have an irreducible sum: its number, and its first row.
+    pub fn next_pair(&self, norm: u64, first: u64) -> Option<(u64, RowId)>
+        ensures { MatchOption result
+            (HasNoneBetween self.now norm first (length (pairs_of self.now.listed norm)))
+            (λ next. IsNextPair self.now norm first next.0 next.1.0) }
+    {
+        if self.ahead.known && self.ahead.norm == norm {
+            return next_opened(self, &self.ahead, first);
+        }
+        if first < self.pairs_at(norm) {
+            Some((first, self.pair(norm, first).0))
+        } else {
+            None
+        }
     }
 
     /// The norm of the first row that waits.
@@ -677,8 +700,20 @@ impl Stage {
             return Err(PublishEnd::Rows { count });
         }
         Ok(Growth {
-            plus: class_of(self.alloc, &rows, self.listed.len(), closed.norm, true)?,
-            minus: class_of(self.alloc, &rows, self.listed.len(), closed.norm, false)?,
+            plus: class_of(
+                self.alloc,
+                &rows,
+                self.listed.len(),
+                closed.norm,
+                Side::Plus,
+            )?,
+            minus: class_of(
+                self.alloc,
+                &rows,
+                self.listed.len(),
+                closed.norm,
+                Side::Minus,
+            )?,
             pairs: self.pairs_at(closed.norm),
             rows,
             taken,

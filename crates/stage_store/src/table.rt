@@ -118,9 +118,11 @@ impl Table {
         requires count { length self.old.groups.items ≡ (length self.old.ids.items + 63) / 64 }
         requires sized { AreSized count self.old.groups.items }
         ensures ids { self.new.ids ≡ self.old.ids }
-        ensures count { OnOk result (length self.new.groups.items ≡ length self.old.ids.items / 64 + 1) }
+        ensures count { OnOk result (length self.new.groups.items
+            ≡ length self.old.ids.items / 64 + 1) }
         ensures sized { OnOk result (AreSized count self.new.groups.items) }
-        ensures groups { OnOk result ((S : LinearSystem) (listed : List (List ℤ)) → AreGroups S listed self.old.ids.items self.old.groups.items
+        ensures groups { OnOk result ((S : LinearSystem) (listed : List (List ℤ))
+            → AreGroups S listed self.old.ids.items self.old.groups.items
             → AreGroups S listed self.old.ids.items self.new.groups.items) }
     {
         if self.ids.len() % 64 == 0 {
@@ -143,11 +145,14 @@ impl Table {
         requires count { length self.old.groups.items ≡ (length self.old.ids.items + 63) / 64 }
         requires sized { AreSized (8 * length bars.now) self.old.groups.items }
         ensures ids { OnOk result (self.new.ids.items ≡ self.old.ids.items ++ i ∷ []) }
-        ensures count { OnOk result (length self.new.groups.items ≡ (length self.new.ids.items + 63) / 64) }
+        ensures count { OnOk result (length self.new.groups.items
+            ≡ (length self.new.ids.items + 63) / 64) }
         ensures sized { OnOk result (AreSized (8 * length bars.now) self.new.groups.items) }
-        ensures groups { OnOk result ((S : LinearSystem) (listed : List (List ℤ)) → AreGroups S listed self.old.ids.items self.old.groups.items
+        ensures groups { OnOk result ((S : LinearSystem) (listed : List (List ℤ))
+            → AreGroups S listed self.old.ids.items self.old.groups.items
             → norm ≡ stage_norm (row_at listed i)
-            → AreTrue (BarsLine S listed (row_at listed i)) true bars.now → AreTrue (ReachesLine (row_at listed i)) false reached.now
+            → AreTrue (BarsLine S listed (row_at listed i)) true bars.now
+            → AreTrue (ReachesLine (row_at listed i)) false reached.now
             → AreGroups S listed self.new.ids.items self.new.groups.items) }
     {
         let place = self.ids.len();

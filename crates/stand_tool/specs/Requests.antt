@@ -28,7 +28,8 @@ is_plain job = is_none job.tables && (is_none job.backup && not job.resume)
 -- a plain job of the tool; nothing where the words were refused
 abbrev pub plain_request : Tool → Option Job → Option Request
 plain_request tool None = None
-plain_request tool (Some job) = if is_plain job then Some (record { tool = tool; job = job }) else None
+plain_request tool (Some job) =
+    if is_plain job then Some (record { tool = tool; job = job }) else None
 
 -- the words behind the tool's name are those of its command
 abbrev pub request_with : Option Tool → List (List ℕ) → Option Request

@@ -14,13 +14,13 @@ use Rattle.lift_core.proofs.Lists.{contains_head, contains_tail, contains_nothin
 use Rattle.stage_store.specs.Stage.{StageValue, IsStage}
 use Rattle.stage_store.specs.Classes.{pairs_of, row_at}
 use Rattle.stage_store.specs.Found.{IsSumOf}
-use Rattle.stage_store.specs.Numbered.{pair_at, GainsNumbered}
+use Rattle.stage_store.specs.Numbered.{pair_at, GainsNumbered, HasNoneBetween}
 use Rattle.stage_store.proofs.Classes.{get_or-default}
 use Rattle.stage_store.proofs.Numbering.{numbered}
 use Rattle.stage_store.proofs.Publish.{one_norm_order}
 use Rattle.stage_store.proofs.Closing.{sum_is_row}
 use Rattle.standing_pool.specs.Parts.{IsPartSum, IsPartList, IsInSomePart}
-use Rattle.standing_pool.specs.Inside.Gathered.{HaveFirst, IsPartNumbered, GainsPart, GainsSums, AreParts}
+use Rattle.standing_pool.specs.Inside.Gathered.{IsPartNumbered, GainsPart, GainsSums, AreParts}
 use Rattle.standing_pool.proofs.Parts.{of_part, in_part}
 use Rattle.standing_pool.proofs.Rows.{once}
 
@@ -56,13 +56,17 @@ module _ (s : StageValue) (e i w : ℕ) where
     ],
   )
 
-  module _ (place from to : ℕ) (inside : place < length s.listed) (first : HaveFirst s e place from to) where
-    -- pairs of a first row of the part
-    pub part_row : (old new : List (List ℤ)) → place % w ≡ i → GainsNumbered s e from to old new → GainsPart s e i w from to old new
-    part_row old new rest g z = (
+  -- numbers without an irreducible sum
+  pub part_gap : (from to : ℕ) (rows : List (List ℤ)) → HasNoneBetween s e from to → GainsPart s e i w from to rows rows
+  part_gap from to rows none z = (λ c. inl c, λ t. elim t [ inl c ↦ c | inr h ↦ absurd (none z (record { number = h.number; at_least = h.at_least; below = h.below; sum = h.sum })) ])
+
+  module _ (place p : ℕ) (inside : place < length s.listed) (first : (pair_at s e p).0 ≡ row_at s.listed place) where
+    -- a pair whose first row is one of the part
+    pub part_pair : (old new : List (List ℤ)) → place % w ≡ i → GainsNumbered s e p (p + 1) old new → GainsPart s e i w p (p + 1) old new
+    part_pair old new rest g z = (
       λ c. elim ((g z).0 c) [
         | inl o ↦ inl o
-        | inr n ↦ inr (record { number = n.number; at_least = n.at_least; below = n.below; place = place; inside = inside; first_is = first n.number n.at_least n.below; rest = rest; sum = n.sum })
+        | inr n ↦ inr (record { number = n.number; at_least = n.at_least; below = n.below; place = place; inside = inside; first_is = subst (λ (k : ℕ). (pair_at s e k).0 ≡ row_at s.listed place) (omega (arith, n.at_least, n.below)) first; rest = rest; sum = n.sum })
       ],
       λ t. elim t [
         | inl o ↦ (g z).1 (inl o)
@@ -70,14 +74,15 @@ module _ (s : StageValue) (e i w : ℕ) where
       ],
     )
 
-    -- pairs of another first row
-    pub other_row : (rows : List (List ℤ)) → IsStage s → (place % w ≡ i → ⊥) → GainsPart s e i w from to rows rows
-    other_row rows h apart z = (
+    -- a pair whose first row is one of another part
+    pub other_pair : (rows : List (List ℤ)) → IsStage s → (place % w ≡ i → ⊥) → GainsPart s e i w p (p + 1) rows rows
+    other_pair rows h apart z = (
       λ c. inl c,
       λ t. elim t [
         | inl c ↦ c
         | inr n ↦
-            let same : n.place ≡ place = once s.listed n.place place h.listed_ascending n.inside inside (sym n.first_is ∙ first n.number n.at_least n.below) in
+            let number : n.number ≡ p = omega (arith, n.at_least, n.below) in
+            let same : n.place ≡ place = once s.listed n.place place h.listed_ascending n.inside inside (sym n.first_is ∙ ap (λ (k : ℕ). (pair_at s e k).0) number ∙ first) in
             absurd (apart (ap (λ (k : ℕ). k % w) (sym same) ∙ n.rest))
       ],
     )

@@ -165,6 +165,10 @@ impl<'a, R: Wait> Norms for Leader<'a, R> {
 
     fn sums(&mut self, stage: &Stage, norm: u64) -> Result<Option<Closed>, AllocError> {
         let hall = self.hall;
+        // The workers know it as well, and do not wait to be told.
+        if let Some(closed) = stage.closed_without_sums(hall.alloc, norm) {
+            return Ok(Some(closed));
+        }
         hall.collect(self.rt, &mut self.tools.parts);
         let closed = put_together(
             hall.alloc,

@@ -28,9 +28,16 @@ impl Model for Published {
 
     ghost Value = { NewsValue };
 
-    ghost view = { λ p. record { system = (arc_value p.system); number = p.number; closed = p.before; norm = p.closed.norm; rows = p.closed.rows } };
+    ghost view = { λ p. record {
+      system = (arc_value p.system);
+      number = p.number;
+      closed = p.before;
+      norm = p.closed.norm;
+      rows = p.closed.rows;
+    } };
 
-    ghost invariant = { λ p. IsNews (arc_value p.system).equations p.number p.before p.closed.norm p.closed.rows };
+    ghost invariant = { λ p.
+        IsNews (arc_value p.system).equations p.number p.before p.closed.norm p.closed.rows };
 }
 
 // A copy of the rows.

@@ -32,9 +32,18 @@ impl Model for PartRows {
 
     ghost Value = { PartValue };
 
-    ghost view = { λ p. record { system = (arc_value p.system); number = p.number; closed = p.closed; norm = p.norm; part = p.part; parts = p.parts; rows = p.rows } };
+    ghost view = { λ p. record {
+      system = (arc_value p.system);
+      number = p.number;
+      closed = p.closed;
+      norm = p.norm;
+      part = p.part;
+      parts = p.parts;
+      rows = p.rows;
+    } };
 
-    ghost invariant = { λ p. IsPart (arc_value p.system).equations p.number p.closed p.norm p.part p.parts p.rows };
+    ghost invariant = { λ p.
+        IsPart (arc_value p.system).equations p.number p.closed p.norm p.part p.parts p.rows };
 }
 
 impl PartRows {

@@ -3,10 +3,11 @@
 ghost use Rattle.std.specs.Prelude.{◌≡◌, ◌≤◌, ◌<◌, IfSome};
 ghost use Rattle.lift_core.specs.Stages.{IsNextNorm};
 ghost use Rattle.stage_store.specs.Stage.{IsDefined};
+ghost use Rattle.standing_pool.specs.Inside.Gathered.{IsNextClosed};
 
 use crate::hall::Hall;
 use crate::part::PartRows;
-use stage_store::{Hints, Lifted, Next, Stage};
+use stage_store::{Closed, Hints, Lifted, Next, Stage};
 use std::sync::Wait;
 use worker_gate::{Gate, Point};
 
@@ -23,13 +24,26 @@ fn first_stage(hall: &Hall) -> Option<Stage>
     }
 }
 
-// Puts the worker's part of the next norm, waits until the norm is told, and lists its rows. Nothing where the worker is to end.
+// Lists the rows of a norm that is worked out. Nothing where they are too many, or memory ran out.
+fn list(hall: &Hall, mut stage: Stage, closed: &Closed) -> Option<Stage>
+    requires defined { IsDefined stage }
+    requires closed { IsNextClosed stage closed.now }
+    ensures { IfSome result IsDefined }
+{
+    match stage.publish(closed, hall.limits.rows) {
+        Ok(()) => Some(stage),
+        Err(_) => None,
+    }
+}
+
+// Puts the worker's part of the next norm, waits until the norm is told, and lists its rows. Where the stage knows that the norm
+// has no irreducible sum, so do those of all others, and nobody waits. Nothing where the worker is to end.
 fn close_norm<R: Wait, G: Gate>(
     rt: &R,
     hall: &Hall,
     gate: &G,
     worker: u32,
-    mut stage: Stage,
+    stage: Stage,
     norm: u64,
     hints: &mut Hints,
 ) -> Option<Stage>
@@ -40,6 +54,9 @@ fn close_norm<R: Wait, G: Gate>(
 {
     let block = Some(u64::from(worker));
     gate.at(worker, Point::Drawn { block });
+    if let Some(closed) = stage.closed_without_sums(hall.alloc, norm) {
+        return list(hall, stage, &closed);
+    }
     let part = PartRows::work_out(
         hall.alloc,
         &hall.system,
@@ -54,10 +71,7 @@ fn close_norm<R: Wait, G: Gate>(
     if !news.fits(&stage) {
         return None;
     }
-    match stage.publish(news.closed(), hall.limits.rows) {
-        Ok(()) => Some(stage),
-        Err(_) => None,
-    }
+    list(hall, stage, news.closed())
 }
 
 // Goes on to the next norm, or to the next stage. Nothing where the worker is to end.

@@ -33,7 +33,11 @@ gave st m n m' = (b : BookValue) → m.1 ≡ (0, Some b) ∷ [] → m' ≡ (givi
 -- a view needs a plan: that of a spent one has no blocks
 abbrev pub no_stage : StageValue
 no_stage = record {
-  system = record { tool = Hilbert; n = 0; equations = record { signs = []; caps = []; rows = [] } };
+  system = record {
+    tool = Hilbert;
+    n = 0;
+    equations = record { signs = []; caps = []; rows = [] };
+  };
   number = 0;
   norm = 0;
   before = 0;

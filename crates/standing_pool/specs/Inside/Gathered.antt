@@ -12,11 +12,6 @@ use Rattle.stage_store.specs.Published.{IsClosedNorm}
 use Rattle.stage_store.specs.declared.stage.Closed.{Closed}
 use Rattle.standing_pool.specs.Parts.{IsPartSum, IsPartList}
 
--- the pairs of norm e with a number from one on and below another have one first row, that at the place
-abbrev pub HaveFirst : StageValue → ℕ → ℕ → ℕ → ℕ → Type 0
-HaveFirst s e place from to =
-    (p : ℕ) → from ≤ p → p < to → (pair_at s e p).0 ≡ row_at s.listed place
-
 -- z is the irreducible sum of a pair with a number from one on and below another, whose first row's place leaves the rest i
 pub record IsPartNumbered (s : StageValue) (e i w from to : ℕ) (z : List ℤ) : Type 0 where
   pub number : ℕ

@@ -48,3 +48,6 @@ returns-clause-greatest c =
     greatest_end c.args.upper.now c.args.x.now (vector_of c.args.candidate) c.loop-i.i c.loop-i.most (omega arith) c.requires.upper c.requires.point
     (length-turned c.args.candidate.negative c.args.candidate.vector.now ∙ c.requires.vector) c.requires.nonzero c.loop-i.invariant.most
     c.loop-i.invariant.decides
+
+pub loop-i-init : goal.loop-i-init
+loop-i-init c = search rules

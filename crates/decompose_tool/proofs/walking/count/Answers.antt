@@ -20,3 +20,6 @@ loop-j-preserved c =
 pub returns-clause-most : goal.returns-clause-most
 returns-clause-most c =
     bounds_most c.args.u.now c.args.rest.now c.loop-j.j c.loop-j.most c.loop-j-test.false c.requires.width c.requires.nonzero c.requires.rest c.loop-j.invariant.small c.loop-j.invariant.bounds
+
+pub loop-j-init : goal.loop-j-init
+loop-j-init c = search rules

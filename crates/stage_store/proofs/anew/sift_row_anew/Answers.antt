@@ -1,6 +1,6 @@
 -- The lines in which the row is marked tell what it bars and reaches, so they are read against the other table as for a
 -- new row.
-use Rattle.std.proofs.Common.{◌≡◌, ◌∙◌, ◌*◌, ◌/◌, ◌<◌, ℕ, List, length, get_or, sym, subst, subst₂, arith, true}
+use Rattle.std.proofs.Common.{◌≡◌, ◌∙◌, ◌*◌, ◌/◌, ◌<◌, ℕ, List, length, get_or, sym, subst, subst₂, arith}
 use Rattle.std.specs.Prelude.{OnOk}
 use Rattle.std.proofs.lemmas.List.{get_or_default}
 use Rattle.lift_core.specs.ToolSystems.{width}
@@ -12,6 +12,7 @@ use Rattle.stage_store.proofs.Tables.{group_at, sized_at, inside_table}
 use Rattle.stage_store.proofs.Classes.{each_at}
 use Rattle.stage_store.proofs.Sifting.{marked_reads}
 use Rattle.stage_store.proofs.anew.sift_row_anew.Goals as goal
+use Rattle.stage_store.specs.declared.side.Side.TheVariants.{Plus}
 
 pub sift_first-requires-clause-row : goal.sift_first-requires-clause-row
 sift_first-requires-clause-row c =
@@ -58,4 +59,4 @@ sift_first-requires-clause-reach_reads c =
 
 pub returns-clause-sifted : goal.returns-clause-sifted
 returns-clause-sifted c =
-    subst (λ (i : ℕ). OnOk c.sift_first.result (AreSiftedBefore true c.args.system.now.equations c.args.listed.now.rows c.sift_first.new.shelves c.args.mirror.now i c.args.end c.args.minus.now.ids.items)) (c.index.ensures ∙ get_or_default c.args.plus.now.ids.items c.args.k c.index.result.now 0 c.requires.place) c.sift_first.ensures.sifted
+    subst (λ (i : ℕ). OnOk c.sift_first.result (AreSiftedBefore Plus c.args.system.now.equations c.args.listed.now.rows c.sift_first.new.shelves c.args.mirror.now i c.args.end c.args.minus.now.ids.items)) (c.index.ensures ∙ get_or_default c.args.plus.now.ids.items c.args.k c.index.result.now 0 c.requires.place) c.sift_first.ensures.sifted

@@ -9,14 +9,14 @@ use Rattle.stage_store.proofs.rebuilding.classes_of.Goals as goal
 pub loop-from-init : goal.loop-from-init
 loop-from-init c =
     let listed = c.args.listed.now.rows in
-    let test = sign_test c.args.positive in
+    let test = sign_test c.args.side in
     subst (λ (classes : List ClassValue). AreClassesBefore listed test 0 classes)
     (sym c.new-classes.ensures.items) (nothing_before listed test)
 
 pub loop-from-preserved : goal.loop-from-preserved
 loop-from-preserved c =
     let listed = c.args.listed.now.rows in
-    let test = sign_test c.args.positive in
+    let test = sign_test c.args.side in
     let e = c.norm_at-norm.result in
     let to = c.waits_up_to-to.result in
     let g : IsGroup listed e c.loop-from.from to = record {

@@ -12,7 +12,7 @@ returns-clause-turned c =
     let one : c.norm_of-one.result ≡ stage_norm (row_at c.args.listed.now.rows c.args.i) = c.norm_of-one.ensures ∙ ap stage_norm c.row.ensures.row in
     let two : c.norm_of-two.result ≡ stage_norm (row_at c.args.listed.now.rows c.args.j) = c.norm_of-two.ensures ∙ ap stage_norm c.row-2.ensures.row in
     let norm : c.norm_of-one.result + c.norm_of-two.result ≡ stage_norm (row_at c.args.listed.now.rows c.args.i) + stage_norm (row_at c.args.listed.now.rows c.args.j) = omega (arith, one, two) in
-    let is : c.pair_of-2.result ≡ pair_by c.args.positive (stage_norm (row_at c.args.listed.now.rows c.args.i) + stage_norm (row_at c.args.listed.now.rows c.args.j)) (place_in c.args.mirror.now c.args.j) (place_in c.args.mirror.now c.args.i) =
-    c.pair_of-2.ensures ∙ ap (λ n. pair_by c.args.positive n (place_in c.args.mirror.now c.args.j) (place_in c.args.mirror.now c.args.i)) norm in
-    on_ok_kept c.keep-2.new.self c.pair_of-2.result (pair_by c.args.positive (stage_norm (row_at c.args.listed.now.rows c.args.i) + stage_norm (row_at c.args.listed.now.rows c.args.j)) (place_in c.args.mirror.now c.args.j) (place_in c.args.mirror.now c.args.i))
+    let is : c.pair_of-2.result ≡ pair_by c.args.side (stage_norm (row_at c.args.listed.now.rows c.args.i) + stage_norm (row_at c.args.listed.now.rows c.args.j)) (place_in c.args.mirror.now c.args.j) (place_in c.args.mirror.now c.args.i) =
+    c.pair_of-2.ensures ∙ ap (λ n. pair_by c.args.side n (place_in c.args.mirror.now c.args.j) (place_in c.args.mirror.now c.args.i)) norm in
+    on_ok_kept c.keep-2.new.self c.pair_of-2.result (pair_by c.args.side (stage_norm (row_at c.args.listed.now.rows c.args.i) + stage_norm (row_at c.args.listed.now.rows c.args.j)) (place_in c.args.mirror.now c.args.j) (place_in c.args.mirror.now c.args.i))
     (c.args.i < length c.args.mirror.now) (c.args.j < length c.args.mirror.now) c.keep-2.result is c.keep-2.ensures.kept

@@ -24,7 +24,7 @@ sift_group-requires-clause-dead c =
     let few : c.min-to.result - 64 * c.loop-group.group ≤ 64 = omega (arith, c.min-to.ensures) in
     let short : length (take (c.min-to.result - 64 * c.loop-group.group) (drop (64 * c.loop-group.group) c.deref.result.now)) ≤ c.min-to.result - 64 * c.loop-group.group =
     omega (arith, length-take (c.min-to.result - 64 * c.loop-group.group) (drop (64 * c.loop-group.group) c.deref.result.now)) in
-    group_has_none c.args.positive c.args.system.now.equations c.args.listed.now.rows c.args.i c.loop-group.group c.dead-dead.result c.args.table.now.ids.items
+    group_has_none c.args.side c.args.system.now.equations c.args.listed.now.rows c.args.i c.loop-group.group c.dead-dead.result c.args.table.now.ids.items
     (take (c.min-to.result - 64 * c.loop-group.group) (drop (64 * c.loop-group.group) c.deref.result.now)) c.args.bar_reads.now c.args.reach_reads.now c.index-lines.result.now
     c.requires.wide (omega (arith, c.requires.row, c.requires.reach_count)) (each_less (length c.args.reaches.now) (length c.args.listed.now.rows) c.args.table.now.ids.items c.requires.reach_count c.requires.places)
     (sized_at (16 * width c.args.system.now.equations) c.args.table.now.groups.items c.loop-group.group c.index-lines.result.now c.requires.sized (omega (arith, c.loop-group-test.true, c.requires.end, c.requires.groups)) c.index-lines.ensures) (group_at c.args.system.now.equations c.args.listed.now.rows c.args.table.now.ids.items c.args.table.now.groups.items c.loop-group.group c.index-lines.result.now c.requires.tell (omega (arith, c.loop-group-test.true, c.requires.end, c.requires.groups)) c.index-lines.ensures) c.requires.bar_reads c.requires.reach_reads c.dead-dead.ensures (omega (arith, short, few))
@@ -36,7 +36,7 @@ pub loop-group-preserved-then-leaves_out : goal.loop-group-preserved-then-leaves
 loop-group-preserved-then-leaves_out c = record {
   count = c.loop-group.invariant.count;
   stay = c.loop-group.invariant.stay;
-  sifted = group_out c.args.positive c.args.system.now.equations c.args.listed.now.rows c.args.mirror.now c.loop-group.shelves c.args.i c.loop-group.group c.index-lines.result.now.least c.index-lines.result.now.most c.norm_of-norm.result c.args.end c.args.table.now.ids.items c.requires.end c.requires.mirror (omega (arith, c.requires.row, c.requires.reach_count))
+  sifted = group_out c.args.side c.args.system.now.equations c.args.listed.now.rows c.args.mirror.now c.loop-group.shelves c.args.i c.loop-group.group c.index-lines.result.now.least c.index-lines.result.now.most c.norm_of-norm.result c.args.end c.args.table.now.ids.items c.requires.end c.requires.mirror (omega (arith, c.requires.row, c.requires.reach_count))
       (each_less (length c.args.reaches.now) (length c.args.listed.now.rows) c.args.table.now.ids.items c.requires.reach_count c.requires.places)
       (group_at c.args.system.now.equations c.args.listed.now.rows c.args.table.now.ids.items c.args.table.now.groups.items c.loop-group.group c.index-lines.result.now c.requires.tell (omega (arith, c.loop-group-test.true, c.requires.end, c.requires.groups)) c.index-lines.ensures).norms (c.norm_of-norm.ensures ∙ ap stage_norm c.row.ensures.row) (c.if-leaves_out.ensures refl) c.loop-group.invariant.sifted;
 }
@@ -47,8 +47,8 @@ loop-group-preserved c =
     record {
       count = c.sift_group.ensures.count;
       stay = stay_through _ _ _ c.loop-group.invariant.stay c.sift_group.ensures.stay;
-      sifted = group_more c.args.positive c.args.system.now.equations c.args.listed.now.rows c.args.mirror.now c.loop-group.shelves c.sift_group.new.shelves c.args.i c.loop-group.group c.args.end c.min-to.result c.args.table.now.ids.items c.sift_group.ensures.stay c.requires.end to c.loop-group.invariant.sifted
-          (subst (λ (l : List ℕ). AreSiftedBy c.args.positive c.args.system.now.equations c.args.listed.now.rows c.sift_group.new.shelves c.args.mirror.now c.args.i (take (c.min-to.result - 64 * c.loop-group.group) (drop (64 * c.loop-group.group) l))) c.deref.ensures.value c.in_ok-sift_group.ensures.sifted);
+      sifted = group_more c.args.side c.args.system.now.equations c.args.listed.now.rows c.args.mirror.now c.loop-group.shelves c.sift_group.new.shelves c.args.i c.loop-group.group c.args.end c.min-to.result c.args.table.now.ids.items c.sift_group.ensures.stay c.requires.end to c.loop-group.invariant.sifted
+          (subst (λ (l : List ℕ). AreSiftedBy c.args.side c.args.system.now.equations c.args.listed.now.rows c.sift_group.new.shelves c.args.mirror.now c.args.i (take (c.min-to.result - 64 * c.loop-group.group) (drop (64 * c.loop-group.group) l))) c.deref.ensures.value c.in_ok-sift_group.ensures.sifted);
     }
 
 pub returns-clause-sifted : goal.returns-clause-sifted

@@ -8,5 +8,5 @@ abbrev pub invariant-loop-group : goal.invariant-loop-group
 invariant-loop-group l = record {
   count : length l.shelves.shelves.items ≡ 256;
   stay : Stay l.fn.shelves l.shelves;
-  sifted : (k : ℕ) → k < 64 * l.group → k < l.end → AreBothSifted l.positive l.system.equations l.listed.rows l.shelves l.mirror l.i (slice_index_or l.table.ids.items k 0);
+  sifted : (k : ℕ) → k < 64 * l.group → k < l.end → AreBothSifted l.side l.system.equations l.listed.rows l.shelves l.mirror l.i (slice_index_or l.table.ids.items k 0);
 }

@@ -16,8 +16,8 @@ loop-k-preserved-then-dead-k-eq1 c =
     record {
       count = c.loop-k.invariant.count;
       stay = c.loop-k.invariant.stay;
-      sifted = below_more (λ k. AreBothSifted c.args.positive c.args.system.now.equations c.args.listed.now.rows c.loop-k.shelves c.args.mirror.now c.args.i (slice_index_or c.args.others.now k 0)) c.loop-k.k c.loop-k.invariant.sifted
-          (both_none c.args.positive c.args.system.now.equations c.args.listed.now.rows c.args.mirror.now c.loop-k.shelves c.args.i (slice_index_or c.args.others.now c.loop-k.k 0) c.requires.mirror (omega (arith, c.requires.row, c.requires.reach_count)) (omega (arith, each_at (λ j. j < length c.args.reaches.now) c.args.others.now c.loop-k.k 0 c.requires.others c.loop-k-test.true, c.requires.reach_count))
+      sifted = below_more (λ k. AreBothSifted c.args.side c.args.system.now.equations c.args.listed.now.rows c.loop-k.shelves c.args.mirror.now c.args.i (slice_index_or c.args.others.now k 0)) c.loop-k.k c.loop-k.invariant.sifted
+          (both_none c.args.side c.args.system.now.equations c.args.listed.now.rows c.args.mirror.now c.loop-k.shelves c.args.i (slice_index_or c.args.others.now c.loop-k.k 0) c.requires.mirror (omega (arith, c.requires.row, c.requires.reach_count)) (omega (arith, each_at (λ j. j < length c.args.reaches.now) c.args.others.now c.loop-k.k 0 c.requires.others c.loop-k-test.true, c.requires.reach_count))
           (as_wide (width c.args.system.now.equations + 1) c.args.listed.now.rows c.args.i (slice_index_or c.args.others.now c.loop-k.k 0) c.requires.wide (omega (arith, c.requires.row, c.requires.reach_count)) (omega (arith, each_at (λ j. j < length c.args.reaches.now) c.args.others.now c.loop-k.k 0 c.requires.others c.loop-k-test.true, c.requires.reach_count))) (c.requires.dead c.loop-k.k c.loop-k-test.true bit));
     }
 
@@ -25,8 +25,8 @@ pub loop-k-preserved-then-is_passed : goal.loop-k-preserved-then-is_passed
 loop-k-preserved-then-is_passed c = record {
   count = c.loop-k.invariant.count;
   stay = c.loop-k.invariant.stay;
-  sifted = below_more (λ k. AreBothSifted c.args.positive c.args.system.now.equations c.args.listed.now.rows c.loop-k.shelves c.args.mirror.now c.args.i (slice_index_or c.args.others.now k 0)) c.loop-k.k c.loop-k.invariant.sifted
-      (both_none c.args.positive c.args.system.now.equations c.args.listed.now.rows c.args.mirror.now c.loop-k.shelves c.args.i (slice_index_or c.args.others.now c.loop-k.k 0) c.requires.mirror (omega (arith, c.requires.row, c.requires.reach_count)) (omega (arith, each_at (λ j. j < length c.args.reaches.now) c.args.others.now c.loop-k.k 0 c.requires.others c.loop-k-test.true, c.requires.reach_count))
+  sifted = below_more (λ k. AreBothSifted c.args.side c.args.system.now.equations c.args.listed.now.rows c.loop-k.shelves c.args.mirror.now c.args.i (slice_index_or c.args.others.now k 0)) c.loop-k.k c.loop-k.invariant.sifted
+      (both_none c.args.side c.args.system.now.equations c.args.listed.now.rows c.args.mirror.now c.loop-k.shelves c.args.i (slice_index_or c.args.others.now c.loop-k.k 0) c.requires.mirror (omega (arith, c.requires.row, c.requires.reach_count)) (omega (arith, each_at (λ j. j < length c.args.reaches.now) c.args.others.now c.loop-k.k 0 c.requires.others c.loop-k-test.true, c.requires.reach_count))
       (as_wide (width c.args.system.now.equations + 1) c.args.listed.now.rows c.args.i (slice_index_or c.args.others.now c.loop-k.k 0) c.requires.wide (omega (arith, c.requires.row, c.requires.reach_count)) (omega (arith, each_at (λ j. j < length c.args.reaches.now) c.args.others.now c.loop-k.k 0 c.requires.others c.loop-k-test.true, c.requires.reach_count))) (c.if-is_passed.ensures c.args.system.now.equations refl));
 }
 
@@ -37,9 +37,9 @@ pub loop-k-preserved : goal.loop-k-preserved
 loop-k-preserved c = record {
   count = c.keep_rows.ensures.count;
   stay = stay_through _ _ _ c.loop-k.invariant.stay c.keep_rows.ensures.stay;
-  sifted = below_more (λ k. AreBothSifted c.args.positive c.args.system.now.equations c.args.listed.now.rows c.keep_rows.new.shelves c.args.mirror.now c.args.i (slice_index_or c.args.others.now k 0)) c.loop-k.k
-      (λ k l. both_stay c.args.positive c.args.system.now.equations c.args.listed.now.rows c.args.mirror.now c.loop-k.shelves c.keep_rows.new.shelves c.args.i (slice_index_or c.args.others.now k 0) c.keep_rows.ensures.stay (c.loop-k.invariant.sifted k l))
-      (both_kept c.args.positive c.args.system.now.equations c.args.listed.now.rows c.args.mirror.now c.keep_rows.new.shelves c.args.i (slice_index_or c.args.others.now c.loop-k.k 0) c.requires.mirror (omega (arith, c.requires.row, c.requires.reach_count)) (omega (arith, each_at (λ j. j < length c.args.reaches.now) c.args.others.now c.loop-k.k 0 c.requires.others c.loop-k-test.true, c.requires.reach_count))
+  sifted = below_more (λ k. AreBothSifted c.args.side c.args.system.now.equations c.args.listed.now.rows c.keep_rows.new.shelves c.args.mirror.now c.args.i (slice_index_or c.args.others.now k 0)) c.loop-k.k
+      (λ k l. both_stay c.args.side c.args.system.now.equations c.args.listed.now.rows c.args.mirror.now c.loop-k.shelves c.keep_rows.new.shelves c.args.i (slice_index_or c.args.others.now k 0) c.keep_rows.ensures.stay (c.loop-k.invariant.sifted k l))
+      (both_kept c.args.side c.args.system.now.equations c.args.listed.now.rows c.args.mirror.now c.keep_rows.new.shelves c.args.i (slice_index_or c.args.others.now c.loop-k.k 0) c.requires.mirror (omega (arith, c.requires.row, c.requires.reach_count)) (omega (arith, each_at (λ j. j < length c.args.reaches.now) c.args.others.now c.loop-k.k 0 c.requires.others c.loop-k-test.true, c.requires.reach_count))
       c.in_ok-keep_rows.ensures.kept c.in_ok-keep_rows.ensures.turned);
 }
 
@@ -50,7 +50,7 @@ pub returns-then-dead-eq18446744073709551615-clause-sifted : goal.returns-then-d
 returns-then-dead-eq18446744073709551615-clause-sifted c = λ k l.
     let jl : slice_index_or c.args.others.now k 0 < length c.args.listed.now.rows = omega (arith, each_at (λ j. j < length c.args.reaches.now) c.args.others.now k 0 c.requires.others l, c.requires.reach_count) in
     let il : c.args.i < length c.args.listed.now.rows = omega (arith, c.requires.row, c.requires.reach_count) in
-    both_none c.args.positive c.args.system.now.equations c.args.listed.now.rows c.args.mirror.now c.args.shelves.now c.args.i (slice_index_or c.args.others.now k 0) c.requires.mirror il jl
+    both_none c.args.side c.args.system.now.equations c.args.listed.now.rows c.args.mirror.now c.args.shelves.now c.args.i (slice_index_or c.args.others.now k 0) c.requires.mirror il jl
     (as_wide (width c.args.system.now.equations + 1) c.args.listed.now.rows c.args.i (slice_index_or c.args.others.now k 0) c.requires.wide il jl)
     (c.requires.dead k l (ap (λ n. bit_at n k) c.if-dead-eq18446744073709551615.true ∙ bit_at_ones 64 k (omega (arith, l, c.requires.most))))
 

@@ -8,5 +8,5 @@ abbrev pub invariant-loop-k : goal.invariant-loop-k
 invariant-loop-k l = record {
   count : length l.shelves.shelves.items ≡ 256;
   stay : Stay l.fn.shelves l.shelves;
-  sifted : (k : ℕ) → k < l.k → AreBothSifted l.positive l.system.equations l.listed.rows l.shelves l.mirror l.i (slice_index_or l.others k 0);
+  sifted : (k : ℕ) → k < l.k → AreBothSifted l.side l.system.equations l.listed.rows l.shelves l.mirror l.i (slice_index_or l.others k 0);
 }

@@ -1,20 +1,27 @@
-use Rattle.std.proofs.Common.{◌∙◌, ℕ, arith, ap, subst, sym, length, []}
+use Rattle.std.proofs.Common.{◌∙◌, ◌+◌, arith, ap, sym, length, []}
+use Rattle.stage_store.specs.Classes.{pairs_of}
 use Rattle.stage_store.proofs.NumberedSums.{written_length}
-use Rattle.standing_pool.specs.Inside.Gathered.{GainsPart}
-use Rattle.standing_pool.proofs.PartSums.{part_more}
+use Rattle.standing_pool.proofs.PartSums.{part_more, part_gap}
 use Rattle.standing_pool.proofs.sums.gather_part.Goals as goal
 
-pub loop-first-preserved : goal.loop-first-preserved
-loop-first-preserved c =
-    let g = c.in_ok-first.ensures in
-    let v = c.loop-first.invariant in
+pub loop-number-preserved : goal.loop-number-preserved
+loop-number-preserved c =
+    let s = c.args.stage.now in
+    let g = c.in_ok-gather_pair.ensures in
+    let v = c.loop-number.invariant in
+    let n = c.in-Some.ensures in
     record {
-      within = g.within;
-      sum = written_length _ c.gather_row.new.sum c.loop-first.sum.items (g.sum ∙ c.deref_mut.ensures.len) ∙ sym c.deref_mut.ensures.len ∙ ap length c.deref_mut.ensures.value ∙ v.sum;
+      within = omega (arith, n.below);
+      sum = written_length _ c.gather_pair.new.sum c.loop-number.sum.items (g.sum ∙ c.deref_mut.ensures.len) ∙ sym c.deref_mut.ensures.len ∙ ap length c.deref_mut.ensures.value ∙ v.sum;
       width = g.width ∙ v.width;
-      gains = part_more c.args.stage.now c.args.norm c.args.part c.args.parts 0 c.loop-first.first c.in_ok-first.first [] c.loop-first.rows.rows c.gather_row.new.rows.rows (omega arith) (omega (arith, g.behind)) v.gains g.gains;
+      gains = part_more s c.args.norm c.args.part c.args.parts 0 c.in-Some.number (c.in-Some.number + 1) [] c.loop-number.rows.rows c.gather_pair.new.rows.rows (omega arith) (omega arith)
+          (part_more s c.args.norm c.args.part c.args.parts 0 c.loop-number.first c.in-Some.number [] c.loop-number.rows.rows c.loop-number.rows.rows (omega arith) n.at_least v.gains (part_gap s c.args.norm c.args.part c.args.parts c.loop-number.first c.in-Some.number c.loop-number.rows.rows n.none))
+          g.gains;
     }
 
 pub returns-clause-gains : goal.returns-clause-gains
 returns-clause-gains c =
-    subst (λ (n : ℕ). GainsPart c.args.stage.now c.args.norm c.args.part c.args.parts 0 n [] c.loop-first.rows.rows) (omega (arith, c.loop-first-test.false, c.loop-first.invariant.within, c.pairs_at-pairs.ensures.number)) c.loop-first.invariant.gains
+    let s = c.args.stage.now in
+    let v = c.loop-number.invariant in
+    part_more s c.args.norm c.args.part c.args.parts 0 c.loop-number.first (length (pairs_of s.listed c.args.norm)) [] c.loop-number.rows.rows c.loop-number.rows.rows (omega arith) v.within v.gains
+    (part_gap s c.args.norm c.args.part c.args.parts c.loop-number.first (length (pairs_of s.listed c.args.norm)) c.loop-number.rows.rows c.in_default.ensures)

@@ -15,6 +15,7 @@ use Rattle.stage_store.proofs.Negatives.{mirror_closed, levels_negated, norm_at_
 use Rattle.stage_store.proofs.Sifting.{on_ok_couple, turned_cases, turned_here, stay_through, both_stay}
 use Rattle.stage_store.proofs.Tables.{table_put, on_ok_table, on_ok_groups, before_more, before_cases}
 use Rattle.stage_store.proofs.sieve.Sieve.sift_couple.Goals as goal
+use Rattle.stage_store.specs.declared.side.Side.TheVariants.{Plus}
 
 pub returns-clause-coupled : goal.returns-clause-coupled
 returns-clause-coupled c =
@@ -54,11 +55,11 @@ returns-clause-coupled c =
     (λ x xl p. (omega (arith, p.0), p.1)) (λ x xl b. elim (turned_cases c.args.system.now.equations c.args.listed.now.rows c.args.self.now.mirror.items whole c.args.i c.requires.row x xl b) [ inl p ↦ inl p | inr e ↦ inr (e ∙ sym q) ]) c.requires.coupled.minus_table
     c.push-2.ensures.ids c.push-2.ensures.count (subst (λ (n : ℕ). OnOk c.push-2.result (AreSized n c.push-2.new.self.groups.items)) lines' c.push-2.ensures.sized) groups in
     -- their pairs
-    let here : AreSiftedBy true c.args.system.now.equations c.args.listed.now.rows c.sift_row.new.shelves c.args.self.now.mirror.items c.args.i c.args.self.now.minus.ids.items =
-    subst (λ (m : List ℕ). AreSiftedBy true c.args.system.now.equations c.args.listed.now.rows c.sift_row.new.shelves m c.args.i c.args.self.now.minus.ids.items) c.deref-2.ensures.value c.in_ok-sift_row.ensures.sifted in
-    let pair : IsSiftedBy true c.args.system.now.equations c.args.listed.now.rows c.keep_rows.new.shelves c.args.i (place_in c.args.self.now.mirror.items c.args.i) =
-    inl (subst (λ (k : ℕ). IsKept c.keep_rows.new.shelves (pair_by true (stage_norm (row_at c.args.listed.now.rows c.args.i) + stage_norm (row_at c.args.listed.now.rows k)) c.args.i k)) q c.in_ok-keep_rows.ensures.kept) in
+    let here : AreSiftedBy Plus c.args.system.now.equations c.args.listed.now.rows c.sift_row.new.shelves c.args.self.now.mirror.items c.args.i c.args.self.now.minus.ids.items =
+    subst (λ (m : List ℕ). AreSiftedBy Plus c.args.system.now.equations c.args.listed.now.rows c.sift_row.new.shelves m c.args.i c.args.self.now.minus.ids.items) c.deref-2.ensures.value c.in_ok-sift_row.ensures.sifted in
+    let pair : IsSiftedBy Plus c.args.system.now.equations c.args.listed.now.rows c.keep_rows.new.shelves c.args.i (place_in c.args.self.now.mirror.items c.args.i) =
+    inl (subst (λ (k : ℕ). IsKept c.keep_rows.new.shelves (pair_by Plus (stage_norm (row_at c.args.listed.now.rows c.args.i) + stage_norm (row_at c.args.listed.now.rows k)) c.args.i k)) q c.in_ok-keep_rows.ensures.kept) in
     on_ok_couple c.args.system.now.equations c.args.listed.now.rows c.args.norm c.args.i c.args.self.now
     (record { rows = c.args.self.now.rows; reaches = c.args.self.now.reaches; mirror = c.args.self.now.mirror; plus = c.push.new.self; minus = c.push-2.new.self; shelves = c.keep_rows.new.shelves })
     c.requires.row c.requires.sign c.requires.coupled (stay_through c.args.self.now.shelves c.sift_row.new.shelves c.keep_rows.new.shelves c.sift_row.ensures.stay c.keep_rows.ensures.stay) c.keep_rows.ensures.count refl refl c.push-2.result
-    (λ k l. both_stay true c.args.system.now.equations c.args.listed.now.rows c.args.self.now.mirror.items c.sift_row.new.shelves c.keep_rows.new.shelves c.args.i _ c.keep_rows.ensures.stay (here k l)) pair plus minus
+    (λ k l. both_stay Plus c.args.system.now.equations c.args.listed.now.rows c.args.self.now.mirror.items c.sift_row.new.shelves c.keep_rows.new.shelves c.args.i _ c.keep_rows.ensures.stay (here k l)) pair plus minus

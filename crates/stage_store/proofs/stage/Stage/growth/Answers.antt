@@ -1,7 +1,7 @@
 -- The rows that wait for the norm are the next ones of the waiting list, and merged with the sums they are all rows
 -- that the norm lists; where they are too many, that is the answer.
 use Rattle.std.proofs.Common.{◌≡◌, ◌∙◌, sym, arith, ap, subst, ℕ, ◌-◌, ◌++◌, length, take, drop, length-append}
-use Rattle.std.specs.Prelude.{List, ℤ, true, false}
+use Rattle.std.specs.Prelude.{List, ℤ}
 use Rattle.std.specs.List.Sorted.{IsStrictlySortedBy}
 use Rattle.std.proofs.lemmas.List.{drop-take}
 use Rattle.int_vector.specs.Vectors.{lex_cmp}
@@ -11,6 +11,7 @@ use Rattle.stage_store.specs.Stage.{IsStage, waiting_of, listed_of, width_of}
 use Rattle.stage_store.proofs.StageFields.{stage_of}
 use Rattle.stage_store.proofs.FirstWaiting.{IsFront, front_of, grown_is, new_norms, still_is, front_entries, sums_entries}
 use Rattle.stage_store.proofs.stage.Stage.growth.Goals as goal
+use Rattle.stage_store.specs.declared.side.Side.TheVariants.{Plus, Minus}
 
 pub merged_rows-requires-clause-waits : goal.merged_rows-requires-clause-waits
 merged_rows-requires-clause-waits c =
@@ -66,9 +67,9 @@ returns c =
       norms = new_norms s e n c.args.closed.now.rows.rows h c.requires.next c.requires.small c.requires.sums.sums f new is;
       within = omega (arith, c.from.ensures, c.from-2.ensures, c.len-2.ensures, c.len-3.ensures, m, c.if-count-from.false, c.from-3.ensures);
       plus_norm = c.in_ok-class_of.ensures.norm;
-      plus_ids = c.in_ok-class_of.ensures.ids ∙ ap (λ k. places (sign_test true) k c.in_ok-rows.rows.rows) (c.len-4.ensures ∙ m);
+      plus_ids = c.in_ok-class_of.ensures.ids ∙ ap (λ k. places (sign_test Plus) k c.in_ok-rows.rows.rows) (c.len-4.ensures ∙ m);
       minus_norm = c.in_ok-class_of-2.ensures.norm;
-      minus_ids = c.in_ok-class_of-2.ensures.ids ∙ ap (λ k. places (sign_test false) k c.in_ok-rows.rows.rows) (c.len-5.ensures ∙ m);
+      minus_ids = c.in_ok-class_of-2.ensures.ids ∙ ap (λ k. places (sign_test Minus) k c.in_ok-rows.rows.rows) (c.len-5.ensures ∙ m);
       taken_inside = f.within;
       still = still_is s e n c.args.closed.now.rows.rows h c.requires.next c.requires.small c.requires.sums.sums f;
       pairs_are = c.pairs_at.ensures.number;
