@@ -1,5 +1,5 @@
 -- The matrices of the last point and of the steps are in range and of their shapes.
-use Rattle.std.proofs.Common.{rules, ◌+◌, ◌*◌, ◌≤◌, ◌∙◌, ap, sym, subst, arith}
+use Rattle.std.proofs.Common.{◌+◌, ◌*◌, ◌≤◌, ◌∙◌, ap, sym, subst, arith}
 use Rattle.std.specs.Prelude.{List, ℤ}
 use Rattle.int_vector.specs.Vectors.{norm}
 use Rattle.climb_tool.proofs.Entries.{within_small}
@@ -28,6 +28,3 @@ invariant_of-result-2 c =
       wide = omega arith;
       small = w.1.small;
     }
-
-pub overflow_cast-reached : goal.overflow_cast-reached
-overflow_cast-reached c = search rules
