@@ -1,14 +1,17 @@
 -- The sum of a pair.
 use Rattle.std.proofs.Common.{◌≡◌, ℕ, zero, suc, ◌+◌, ◌≤◌, ◌<◌, List, [], ◌∷◌, length, get_or, take, refl, ap, sym, ◌∙◌, arith, subst, subst₂, Bool, true, false}
-use Rattle.std.specs.Prelude.{IsTrue, ℤ, pos, ◌+ℤ◌, ◌<ℤ◌, nat_abs}
+use Rattle.std.specs.Prelude.{IsTrue, All, ℤ, pos, ◌+ℤ◌, ◌<ℤ◌, nat_abs}
 use Rattle.std.specs.List.{AllZip}
 use Rattle.int_vector.specs.Operations.{AreConformal, add}
 use Rattle.lift_core.specs.Systems.{LinearSystem, ObeysCaps}
 use Rattle.lift_core.specs.PairSums.{HasSum}
-use Rattle.lift_core.specs.Stages.{IsPair, front, last, stage_norm}
+use Rattle.lift_core.specs.Stages.{IsPair, front, last, stage_norm, has_positive_last, has_negative_last}
 use Rattle.lift_core.proofs.Stages.{front-take, front-add, last-get_or}
 use Rattle.std.proofs.lemmas.Int.{ints}
 use Rattle.int_vector.specs.Vectors.{norm, largest}
+use Rattle.int_vector.specs.Range.{InRange}
+use Rattle.std.proofs.lemmas.List.Elements.{All-get_or}
+use Rattle.stage_store.proofs.StageFields.{is_less}
 
 abbrev pub SumFits : ℤ → ℤ → Type 0
 SumFits x y = nat_abs (x +ℤ y) ≤ largest
@@ -70,6 +73,13 @@ pair_fits listed u v f g w p q m n pair small a b =
     sums_fit u v (m ∙ sym n) (omega (arith, ap stage_norm p, ap stage_norm q, small))
     (subst (λ (x : List ℤ). pos 0 <ℤ last x) (sym p) pair.above) (subst (λ (x : List ℤ). last x <ℤ pos 0) (sym q) pair.under)
     (subst (λ (x : ℤ). nat_abs x ≤ largest) (sym (last-get_or u w (pos 0) m)) a) (subst (λ (x : ℤ). nat_abs x ≤ largest) (sym (last-get_or v w (pos 0) n)) b)
+
+-- so do those of two rows with last entries of opposite signs
+pub opposite_fits : (u v : List ℤ) (w : ℕ) → length u ≡ w + 1 → length v ≡ w + 1 → stage_norm u + stage_norm v ≤ largest → has_positive_last u ≡ true → has_negative_last v ≡ true → All InRange u → All InRange v → AllZip SumFits u v
+opposite_fits u v w m n small a b p q =
+    sums_fit u v (m ∙ sym n) small (is_less (pos 0) (last u) a) (is_less (last v) (pos 0) b)
+    (subst (λ (x : ℤ). nat_abs x ≤ largest) (sym (last-get_or u w (pos 0) m)) (All-get_or InRange u w (pos 0) (omega (arith, m)) p))
+    (subst (λ (x : ℤ). nat_abs x ≤ largest) (sym (last-get_or v w (pos 0) n)) (All-get_or InRange v w (pos 0) (omega (arith, n)) q))
 
 -- the entries of the sum are in range
 sum_range : (f g : List ℤ) (k : ℕ) (d : ℤ) → AllZip SumFits f g → k < length (add f g) → nat_abs (get_or (add f g) k d) ≤ largest

@@ -3,6 +3,7 @@
 ghost use Rattle.std.specs.Prelude.{◌≡◌, ◌+◌, ◌<◌, ◌≤◌, ◌^◌, [], length, slice_index_or, OnOk};
 ghost use Rattle.lift_core.specs.ToolSystems.{width};
 ghost use Rattle.lift_core.specs.Stages.{has_positive_last, has_negative_last};
+ghost use Rattle.stage_store.specs.Indexed.{HoldsRows};
 ghost use Rattle.stage_store.specs.Mirror.{AreCouples, IsWholeOr};
 ghost use Rattle.stage_store.specs.Reaches.{AreReaches};
 ghost use Rattle.stage_store.specs.Shelves.{Stay};
@@ -16,6 +17,7 @@ use crate::side::Side;
 use crate::sieve::{keep_rows, sift_first};
 use crate::table::Table;
 use lift_core::System;
+use reduce_tree::Tree;
 use row_pool::Pool;
 use std::alloc::{AllocError, Global};
 
@@ -24,6 +26,7 @@ fn sift_row_anew(
     shelves: &mut Shelves,
     system: &System,
     listed: &Pool,
+    tree: &Tree,
     reaches: &[u64],
     mirror: &[u32],
     plus: &Table,
@@ -33,6 +36,7 @@ fn sift_row_anew(
     bar_reads: &mut Vec<usize>,
     reach_reads: &mut Vec<usize>,
 ) -> Result<(), AllocError>
+    requires indexed { HoldsRows tree.now listed.now }
     requires count { length shelves.old.shelves.items ≡ 256 }
     requires reaches { AreReaches listed.now.rows reaches.now }
     requires reach_count { length reaches.now ≤ length listed.now.rows }
@@ -61,6 +65,7 @@ fn sift_row_anew(
         shelves,
         system,
         listed,
+        tree,
         reaches,
         mirror,
         Side::Plus,
@@ -78,10 +83,12 @@ fn sift_tables(
     shelves: &mut Shelves,
     system: &System,
     listed: &Pool,
+    tree: &Tree,
     reaches: &[u64],
     plus: &Table,
     minus: &Table,
 ) -> Result<(), AllocError>
+    requires indexed { HoldsRows tree.now listed.now }
     requires count { length shelves.old.shelves.items ≡ 256 }
     requires reaches { AreReaches listed.now.rows reaches.now }
     requires reach_count { length reaches.now ≤ length listed.now.rows }
@@ -107,6 +114,7 @@ fn sift_tables(
             shelves,
             system,
             listed,
+            tree,
             reaches,
             &[],
             plus,
@@ -126,6 +134,7 @@ fn sift_couple_anew(
     shelves: &mut Shelves,
     system: &System,
     listed: &Pool,
+    tree: &Tree,
     reaches: &[u64],
     mirror: &[u32],
     plus: &Table,
@@ -134,6 +143,7 @@ fn sift_couple_anew(
     bar_reads: &mut Vec<usize>,
     reach_reads: &mut Vec<usize>,
 ) -> Result<(), AllocError>
+    requires indexed { HoldsRows tree.now listed.now }
     requires count { length shelves.old.shelves.items ≡ 256 }
     requires reaches { AreReaches listed.now.rows reaches.now }
     requires reach_count { length reaches.now ≤ length listed.now.rows }
@@ -159,6 +169,7 @@ fn sift_couple_anew(
         shelves,
         system,
         listed,
+        tree,
         reaches,
         mirror,
         plus,
@@ -187,11 +198,13 @@ fn sift_couples_anew(
     shelves: &mut Shelves,
     system: &System,
     listed: &Pool,
+    tree: &Tree,
     reaches: &[u64],
     mirror: &[u32],
     plus: &Table,
     minus: &Table,
 ) -> Result<(), AllocError>
+    requires indexed { HoldsRows tree.now listed.now }
     requires count { length shelves.old.shelves.items ≡ 256 }
     requires reaches { AreReaches listed.now.rows reaches.now }
     requires reach_count { length reaches.now ≤ length listed.now.rows }
@@ -219,6 +232,7 @@ fn sift_couples_anew(
             shelves,
             system,
             listed,
+            tree,
             reaches,
             mirror,
             plus,
@@ -237,11 +251,13 @@ pub fn sift_anew(
     shelves: &mut Shelves,
     system: &System,
     listed: &Pool,
+    tree: &Tree,
     reaches: &[u64],
     mirror: &[u32],
     plus: &Table,
     minus: &Table,
 ) -> Result<(), AllocError>
+    requires indexed { HoldsRows tree.now listed.now }
     requires count { length shelves.old.shelves.items ≡ 256 }
     requires reaches { AreReaches listed.now.rows reaches.now }
     requires reach_count { length reaches.now ≤ length listed.now.rows }
@@ -262,8 +278,10 @@ pub fn sift_anew(
         (AreSifted system.now.equations listed.now.rows (length reaches.now) shelves.new) }
 {
     if are_couples(mirror, &plus.ids, &minus.ids) {
-        sift_couples_anew(alloc, shelves, system, listed, reaches, mirror, plus, minus)
+        sift_couples_anew(
+            alloc, shelves, system, listed, tree, reaches, mirror, plus, minus,
+        )
     } else {
-        sift_tables(alloc, shelves, system, listed, reaches, plus, minus)
+        sift_tables(alloc, shelves, system, listed, tree, reaches, plus, minus)
     }
 }

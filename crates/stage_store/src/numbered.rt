@@ -11,8 +11,9 @@ ghost use Rattle.stage_store.specs.Numbered.{GainsNumbered, HasNoneBetween, IsNe
 ghost use Rattle.stage_store.specs.Opened.{AreEnough, IsFreeByHalf, IsOpen, open_number};
 
 use crate::opened::{Halves, OpenPair, Opened};
+use crate::reducers::Reducers;
 use crate::stage::Stage;
-use int_vector::{below, same};
+use int_vector::same;
 use row_pool::{Pool, RowId};
 use std::alloc::{AllocError, Global};
 use std::mem;
@@ -20,20 +21,16 @@ use std::mem;
 /// How many pairs are gathered at a time.
 const BLOCK: u64 = 256;
 
-/// How many reducers are remembered.
-const REDUCERS: usize = 4;
-
 /// How many places of sums that were found are remembered.
 const FOUND: usize = 4096;
 
 /// How many of them, one after another, are for the sums of one hash.
 const WAYS: usize = 4;
 
-/// What a worker remembers from one range of pairs to the next: the places of the listed rows that the last reducible
-/// sums were above, the likeliest first. No clause rests on it.
+/// What a worker remembers from one range of pairs to the next. No clause rests on it.
 #[derive(Drop)]
 pub struct Hints {
-    reducers: Vec<u32>,
+    reducers: Reducers,
     /// Where sums were put among the rows that were found, by a hash of the sum: the last ones of
     /// each hash, the latest first.
     found: Vec<u32>,
@@ -43,23 +40,17 @@ impl Hints {
     /// Nothing is remembered yet. All the memory that is ever needed is taken here.
     pub fn new(alloc: Global) -> Result<Hints, AllocError> {
         Ok(Hints {
-            reducers: vec![in alloc; 0; REDUCERS]?,
+            reducers: Reducers::new(alloc)?,
             found: vec![in alloc; 0; FOUND]?,
         })
     }
 
-    /// Whether a row that is known as a reducer is below a sum. It comes nearer to the front.
+    /// Whether a row that is known as a reducer is below a sum.
     fn is_reduced(&mut self, stage: &Stage, sum: &[i64]) -> bool
         requires { length sum.now ≡ width stage.now.system.equations + 1 }
         ensures { IsTrue result → IsReducible stage.now.listed sum.now }
     {
-        match reducer_below(&self.reducers, stage, sum) {
-            Some(k) => {
-                self.reducers.swap(k.saturating_sub(1), k);
-                true
-            }
-            None => false,
-        }
+        self.reducers.reduce(stage.rows(), sum)
     }
 
     /// Whether a sum is known to be among the rows.
@@ -85,13 +76,6 @@ impl Hints {
             }
         }
     }
-
-    /// Keeps a reducer in mind, in place of the unlikeliest.
-    fn remember(&mut self, id: RowId) {
-        if let Some(place) = self.reducers.last_mut() {
-            *place = id.0;
-        }
-    }
 }
 
 /// Whether the row at a place, if there is one, is this one.
@@ -101,8 +85,8 @@ fn stands_at(rows: &Pool, place: u32, sum: &[i64]) -> bool
     place < rows.len() && same(rows.row(RowId(place)), sum)
 }
 
-/// Where the place of a sum is remembered, by a hash.
-fn slot_of(sum: &[i64]) -> usize {
+/// A hash of a sum.
+pub fn hash_of(sum: &[i64]) -> u64 {
     let mut hash: u64 = 0;
     let mut weight: u64 = 0x9E37_79B9_7F4A_7C15;
     for entry in sum {
@@ -115,21 +99,12 @@ fn slot_of(sum: &[i64]) -> usize {
         };
         weight = weight.rotate_left(7);
     }
-    (hash >> 54) as usize * WAYS
+    hash
 }
 
-/// Which of some places has a listed row that is below a sum.
-fn reducer_below(places: &[u32], stage: &Stage, sum: &[i64]) -> Option<usize>
-    requires { length sum.now ≡ width stage.now.system.equations + 1 }
-    ensures inside { IfSome result (λ k. k < length places.now) }
-    ensures reduced { IfSome result (λ _. IsReducible stage.now.listed sum.now) }
-{
-    for k in 0..places.len() {
-        if places[k] < stage.len() && below(stage.row(RowId(places[k])), sum) {
-            return Some(k);
-        }
-    }
-    None
+/// Where the place of a sum is remembered, by its hash.
+fn slot_of(sum: &[i64]) -> usize {
+    (hash_of(sum) >> 54) as usize * WAYS
 }
 
 /// A listed row that is below a sum, found among those that are enough, by one measure for each sum: by x0 where that is
@@ -185,7 +160,7 @@ fn take_places(
         return;
     }
     if let Some(id) = find_reducer(stage, halves, sum) {
-        hints.remember(id);
+        hints.reducers.remember(id);
         return;
     }
     let place = rows.push(sum);

@@ -5,9 +5,16 @@
 
 ghost use Rattle.std.specs.Prelude.{◌≡◌, ◌⊎◌, ◌+◌, ◌%◌, ◌<◌, ◌≤◌, ◌++◌, ◌∷◌, [], List, length, slice_index_or, OnOk, OnErr, IfOk, IsTrue};
 ghost use Rattle.std.specs.List.{Contains};
+ghost use Rattle.lift_core.specs.Systems.{LinearSystem};
+ghost use Rattle.stage_store.specs.Indexed.{HoldsRows};
 ghost use Rattle.stage_store.specs.Shelves.{IsKept, Stay};
+ghost use Rattle.stage_store.specs.Sieve.{AreNormed, HasNoNewSumBy};
 
+use crate::judge::Judge;
+use crate::side::Side;
 use crate::sieve::KeptPair;
+use reduce_tree::Tree;
+use row_pool::Pool;
 use std::alloc::{AllocError, Global};
 use std::marker::Model;
 
@@ -98,10 +105,11 @@ impl Shelf {
     }
 }
 
-/// The kept pairs.
+/// The kept pairs, and a judge of those that need not be kept.
 #[derive(Drop)]
 pub struct Shelves {
     shelves: Vec<Shelf>,
+    judge: Judge,
     /// Pairs up to this norm are not kept.
     closed: u64,
     /// Pairs from this norm on are not kept.
@@ -135,13 +143,15 @@ fn middle(closed: u64, horizon: u64) -> u64
 }
 
 impl Shelves {
-    /// No pairs.
-    pub fn new(alloc: Global) -> Result<Shelves, AllocError>
+    /// No pairs. Rows have so many entries before the last.
+    pub fn new(alloc: Global, width: usize) -> Result<Shelves, AllocError>
+        requires { width ≤ 129 }
         ensures shelves { IfOk result (λ s. length s.shelves.items ≡ 256) }
         ensures closed { IfOk result (λ s. s.closed ≡ 0) }
     {
         Ok(Shelves {
             shelves: empty_shelves(alloc)?,
+            judge: Judge::new(alloc, width)?,
             closed: 0,
             horizon: u64::MAX,
             window: u64::MAX,
@@ -213,6 +223,21 @@ impl Shelves {
         self.closed = norm;
         let dropped = self.shelves[(norm % 256) as usize].drop_closed(norm);
         self.count = self.count.saturating_sub(dropped);
+    }
+
+    /// Whether the pair of a row on a side and another is known to have no irreducible sum, and so need not be kept.
+    pub fn refuse(&mut self, listed: &Pool, tree: &Tree, side: Side, i: u32, j: u32) -> bool
+        requires indexed { HoldsRows tree.now listed.now }
+        requires some { 0 < listed.now.width }
+        requires norms { AreNormed listed.now.rows }
+        requires one { i < length listed.now.rows }
+        requires two { j < length listed.now.rows }
+        ensures shelves { length self.new.shelves.items ≡ length self.old.shelves.items }
+        ensures stay { Stay self.old self.new }
+        ensures none { (S : LinearSystem) → IsTrue result
+            → HasNoNewSumBy side S listed.now.rows i j }
+    {
+        self.judge.refuses(listed, tree, side, i, j)
     }
 
     /// Puts a pair on its shelf, where its norm is one of which pairs are kept.

@@ -114,6 +114,7 @@ fn sift_group(
     shelves: &mut Shelves,
     system: &System,
     listed: &Pool,
+    tree: &Tree,
     reaches: &[u64],
     mirror: &[u32],
     side: Side,
@@ -121,6 +122,7 @@ fn sift_group(
     others: &[u32],
     dead: u64,
 ) -> Result<(), AllocError>
+    requires indexed { HoldsRows tree.now listed.now }
     requires count { length shelves.old.shelves.items ≡ 256 }
     requires reaches { AreReaches listed.now.rows reaches.now }
     requires reach_count { length reaches.now ≤ length listed.now.rows }
@@ -151,6 +153,9 @@ fn sift_group(
         if is_passed(listed, width, reaches, side, i, others[k]) {
             continue;
         }
+        if shelves.refuse(listed, tree, side, i, others[k]) {
+            continue;
+        }
         keep_rows(shelves, listed, width, mirror, side, i, others[k])?;
     }
     Ok(())
@@ -162,6 +167,7 @@ pub fn sift_first(
     shelves: &mut Shelves,
     system: &System,
     listed: &Pool,
+    tree: &Tree,
     reaches: &[u64],
     mirror: &[u32],
     side: Side,
@@ -171,6 +177,7 @@ pub fn sift_first(
     bar_reads: &[usize],
     reach_reads: &[usize],
 ) -> Result<(), AllocError>
+    requires indexed { HoldsRows tree.now listed.now }
     requires count { length shelves.old.shelves.items ≡ 256 }
     requires reaches { AreReaches listed.now.rows reaches.now }
     requires reach_count { length reaches.now ≤ length listed.now.rows }
@@ -209,7 +216,7 @@ pub fn sift_first(
         let dead = lines.dead(bar_reads, reach_reads);
         let others = &table.ids[from..to];
         sift_group(
-            shelves, system, listed, reaches, mirror, side, i, others, dead,
+            shelves, system, listed, tree, reaches, mirror, side, i, others, dead,
         )?;
     }
     Ok(())
@@ -220,6 +227,7 @@ fn sift_row(
     shelves: &mut Shelves,
     system: &System,
     listed: &Pool,
+    tree: &Tree,
     reaches: &[u64],
     mirror: &[u32],
     side: Side,
@@ -228,6 +236,7 @@ fn sift_row(
     bar_reads: &[usize],
     reach_reads: &[usize],
 ) -> Result<(), AllocError>
+    requires indexed { HoldsRows tree.now listed.now }
     requires count { length shelves.old.shelves.items ≡ 256 }
     requires reaches { AreReaches listed.now.rows reaches.now }
     requires reach_count { length reaches.now ≤ length listed.now.rows }
@@ -257,6 +266,7 @@ fn sift_row(
         shelves,
         system,
         listed,
+        tree,
         reaches,
         mirror,
         side,
@@ -313,6 +323,7 @@ fn sift_into(
         shelves,
         system,
         listed,
+        tree,
         reaches,
         &[],
         side,
@@ -325,8 +336,9 @@ fn sift_into(
 }
 
 impl Sieve {
-    /// Nothing was sifted yet.
-    pub fn new(alloc: Global) -> Result<Sieve, AllocError>
+    /// Nothing was sifted yet. Rows have so many entries before the last.
+    pub fn new(alloc: Global, width: usize) -> Result<Sieve, AllocError>
+        requires { width ≤ 129 }
         ensures { IfOk result IsNewSieve }
     {
         Ok(Sieve {
@@ -335,7 +347,7 @@ impl Sieve {
             mirror: Vec::new(alloc),
             plus: Table::new(alloc),
             minus: Table::new(alloc),
-            shelves: Shelves::new(alloc)?,
+            shelves: Shelves::new(alloc, width)?,
         })
     }
 
@@ -358,9 +370,11 @@ impl Sieve {
         alloc: Global,
         system: &System,
         listed: &Pool,
+        tree: &Tree,
         norm: u64,
         next: u64,
     ) -> Result<(), AllocError>
+        requires indexed { HoldsRows tree.now listed.now }
         requires width { listed.now.width ≡ width system.now.equations + 1 }
         requires few { length listed.now.rows ≤ 2 ^ 21 }
         requires norms { AreNormed listed.now.rows }
@@ -380,6 +394,7 @@ impl Sieve {
             &mut self.shelves,
             system,
             listed,
+            tree,
             &self.reaches,
             &self.mirror,
             &self.plus,
@@ -411,7 +426,7 @@ impl Sieve {
             (length listed.now.rows) self.new) }
     {
         let known = self.turn_rows(alloc, listed)?;
-        self.renew(alloc, system, listed, norm, next)?;
+        self.renew(alloc, system, listed, tree, norm, next)?;
         self.shelves.close(norm, listed.len());
         // Most norms list no row.
         if self.rows == listed.len() {
@@ -621,6 +636,7 @@ impl Sieve {
             &mut self.shelves,
             system,
             listed,
+            tree,
             &self.reaches,
             &self.mirror,
             Side::Plus,

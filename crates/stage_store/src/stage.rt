@@ -234,6 +234,7 @@ impl Stage {
         let waiting = extended(alloc, &system, number, &solutions)?;
         let listed = Pool::new(alloc, system.width() + 1);
         let tree = empty_tree(alloc, system.tool(), system.width() + 1);
+        let sieve = Sieve::new(alloc, system.width() as usize)?;
         let mut stage = Stage {
             alloc,
             system,
@@ -247,7 +248,7 @@ impl Stage {
             waited: 0,
             plus: Vec::new(alloc),
             minus: Vec::new(alloc),
-            sieve: Sieve::new(alloc)?,
+            sieve,
             following: Following::unknown(),
             tally: Tally::new(alloc),
             ahead: Opened::unknown(alloc),
@@ -278,6 +279,7 @@ impl Stage {
     {
         let tool = system.tool();
         let before = used - pairs_within(&listed, norm);
+        let entries = system.width() as usize;
         let mut stage = Stage {
             alloc,
             system,
@@ -291,7 +293,7 @@ impl Stage {
             listed,
             waiting,
             waited: 0,
-            sieve: Sieve::new(alloc)?,
+            sieve: Sieve::new(alloc, entries)?,
             following: Following::unknown(),
             tally: Tally::new(alloc),
             ahead: Opened::unknown(alloc),
@@ -385,6 +387,14 @@ impl Stage {
         ensures range { All InRange result.now }
     {
         self.listed.row(id)
+    }
+
+    /// The listed rows.
+    pub(crate) fn rows(&self) -> &Pool
+        ensures rows { result.now.rows ≡ self.now.listed }
+        ensures width { result.now.width ≡ width self.now.system.equations + 1 }
+    {
+        &self.listed
     }
 
     /// The number of rows that wait.

@@ -33,15 +33,38 @@ loop-k-preserved-then-is_passed c = record {
 pub is_passed-requires-clause-two : goal.is_passed-requires-clause-two
 is_passed-requires-clause-two c = each_at (λ j. j < _) c.args.others.now c.loop-k.k 0 c.requires.others c.loop-k-test.true
 
+pub loop-k-preserved-then-refuse : goal.loop-k-preserved-then-refuse
+loop-k-preserved-then-refuse c =
+    let S = c.args.system.now.equations in
+    let listed = c.args.listed.now.rows in
+    let il : c.args.i < length listed = omega (arith, c.requires.row, c.requires.reach_count) in
+    let jl : slice_index_or c.args.others.now c.loop-k.k 0 < length listed = omega (arith, each_at (λ j. j < length c.args.reaches.now) c.args.others.now c.loop-k.k 0 c.requires.others c.loop-k-test.true, c.requires.reach_count) in
+    record {
+      count = c.refuse.ensures.shelves ∙ c.loop-k.invariant.count;
+      stay = stay_through _ _ _ c.loop-k.invariant.stay c.refuse.ensures.stay;
+      sifted = below_more (λ k. AreBothSifted c.args.side S listed c.refuse.new.self c.args.mirror.now c.args.i (slice_index_or c.args.others.now k 0)) c.loop-k.k
+          (λ k l. both_stay c.args.side S listed c.args.mirror.now c.loop-k.shelves c.refuse.new.self c.args.i (slice_index_or c.args.others.now k 0) c.refuse.ensures.stay (c.loop-k.invariant.sifted k l))
+          (both_none c.args.side S listed c.args.mirror.now c.refuse.new.self c.args.i (slice_index_or c.args.others.now c.loop-k.k 0) c.requires.mirror il jl
+          (as_wide (width S + 1) listed c.args.i (slice_index_or c.args.others.now c.loop-k.k 0) c.requires.wide il jl) (c.if-refuse.ensures.none S refl));
+    }
+
 pub loop-k-preserved : goal.loop-k-preserved
-loop-k-preserved c = record {
-  count = c.keep_rows.ensures.count;
-  stay = stay_through _ _ _ c.loop-k.invariant.stay c.keep_rows.ensures.stay;
-  sifted = below_more (λ k. AreBothSifted c.args.side c.args.system.now.equations c.args.listed.now.rows c.keep_rows.new.shelves c.args.mirror.now c.args.i (slice_index_or c.args.others.now k 0)) c.loop-k.k
-      (λ k l. both_stay c.args.side c.args.system.now.equations c.args.listed.now.rows c.args.mirror.now c.loop-k.shelves c.keep_rows.new.shelves c.args.i (slice_index_or c.args.others.now k 0) c.keep_rows.ensures.stay (c.loop-k.invariant.sifted k l))
-      (both_kept c.args.side c.args.system.now.equations c.args.listed.now.rows c.args.mirror.now c.keep_rows.new.shelves c.args.i (slice_index_or c.args.others.now c.loop-k.k 0) c.requires.mirror (omega (arith, c.requires.row, c.requires.reach_count)) (omega (arith, each_at (λ j. j < length c.args.reaches.now) c.args.others.now c.loop-k.k 0 c.requires.others c.loop-k-test.true, c.requires.reach_count))
-      c.in_ok-keep_rows.ensures.kept c.in_ok-keep_rows.ensures.turned);
-}
+loop-k-preserved c =
+    let S = c.args.system.now.equations in
+    let listed = c.args.listed.now.rows in
+    let il : c.args.i < length listed = omega (arith, c.requires.row, c.requires.reach_count) in
+    let jl : slice_index_or c.args.others.now c.loop-k.k 0 < length listed = omega (arith, each_at (λ j. j < length c.args.reaches.now) c.args.others.now c.loop-k.k 0 c.requires.others c.loop-k-test.true, c.requires.reach_count) in
+    record {
+      count = c.keep_rows.ensures.count;
+      stay = stay_through _ _ _ (stay_through _ _ _ c.loop-k.invariant.stay c.refuse.ensures.stay) c.keep_rows.ensures.stay;
+      sifted = below_more (λ k. AreBothSifted c.args.side S listed c.keep_rows.new.shelves c.args.mirror.now c.args.i (slice_index_or c.args.others.now k 0)) c.loop-k.k
+          (λ k l. both_stay c.args.side S listed c.args.mirror.now c.loop-k.shelves c.keep_rows.new.shelves c.args.i (slice_index_or c.args.others.now k 0) (stay_through _ _ _ c.refuse.ensures.stay c.keep_rows.ensures.stay) (c.loop-k.invariant.sifted k l))
+          (both_kept c.args.side S listed c.args.mirror.now c.keep_rows.new.shelves c.args.i (slice_index_or c.args.others.now c.loop-k.k 0) c.requires.mirror il jl
+          c.in_ok-keep_rows.ensures.kept c.in_ok-keep_rows.ensures.turned);
+    }
+
+pub returns-in_err-keep_rows-clause-stay : goal.returns-in_err-keep_rows-clause-stay
+returns-in_err-keep_rows-clause-stay c = stay_through _ _ _ (stay_through _ _ _ c.loop-k.invariant.stay c.refuse.ensures.stay) c.keep_rows.ensures.stay
 
 pub keep_rows-requires-clause-two : goal.keep_rows-requires-clause-two
 keep_rows-requires-clause-two c = omega (arith, each_at (λ j. j < length c.args.reaches.now) c.args.others.now c.loop-k.k 0 c.requires.others c.loop-k-test.true, c.requires.reach_count)
